@@ -1,0 +1,90 @@
+-- What `lowest` is for: a refusal is given exactly when its row applies and no row before it does, and none is given exactly when no row applies.
+-- Assumes nothing.
+use mathlib.Core.Bool.{Bool, true, false, cond}
+use mathlib.Core.Path.{_≡_, refl, sym, ap, _∙_}
+use mathlib.Core.List.{List, [], _∷_, _++_}
+use Prim.Native.Nat.{ℕ}
+use native.Mathlib.Omega.{arith}
+use Rattle.refusal.specs.declared.Refusal.{Refusal}
+use Rattle.refusal.specs.declared.Outcome.{Outcome}
+use Rattle.refusal.specs.declared.Outcome.the-variants.{Accepted, Refused}
+use Rattle.refusal.specs.Table.{refusalOf, Row, rowAt, lowest}
+
+-- ---- one row at a time, as the code meets them
+
+pub lowest-here : (r : Row) (rs : List Row) → r .applies ≡ true → lowest (r ∷ rs) ≡ refusalOf (r .number) (r .place)
+unfolding lowest
+lowest-here r rs e = rw e
+
+pub lowest-next : (r : Row) (rs : List Row) → r .applies ≡ false → lowest (r ∷ rs) ≡ lowest rs
+unfolding lowest
+lowest-next r rs e = rw e
+
+-- ---- all rows
+
+-- none of them applies
+unfoldable pub Silent : List Row → Type 0
+Silent [] = Unit
+Silent (r ∷ rs) = (r .applies ≡ false) × Silent rs
+
+-- a row that applies, with this number and place, stands behind rows of which none applies
+pub record Given (rows : List Row) (n p : ℕ) : Type 0 where
+  pub before : List Row
+  pub after : List Row
+  pub split : rows ≡ before ++ (rowAt true n p ∷ after)
+  pub silent : Silent before
+
+silent-lowest : (rows : List Row) → Silent rows → lowest rows ≡ Accepted
+unfolding lowest Silent
+silent-lowest [] s = refl
+silent-lowest (r ∷ rs) s = rw (s .0) (silent-lowest rs (s .1))
+
+skipped : (before : List Row) (r : Row) (after : List Row) → Silent before → r .applies ≡ true → lowest (before ++ (r ∷ after)) ≡ refusalOf (r .number) (r .place)
+unfolding Silent
+skipped [] r after s e = lowest-here r after e
+skipped (b ∷ bs) r after s e = lowest-next b (bs ++ (r ∷ after)) (s .0) ∙ skipped bs r after (s .1) e
+
+pub given-refused : (rows : List Row) (n p : ℕ) → Given rows n p → lowest rows ≡ refusalOf n p
+given-refused rows n p g = ap lowest (g .split) ∙ skipped (g .before) (rowAt true n p) (g .after) (g .silent) refl
+
+pub silent-accepted : (rows : List Row) → Silent rows → lowest rows ≡ Accepted
+silent-accepted = silent-lowest
+
+-- the number and the place of a refusal, and 0 where there is none
+numberIn : Outcome → ℕ
+numberIn Accepted = 0
+numberIn (Refused r) = r .number
+
+placeIn : Outcome → ℕ
+placeIn Accepted = 0
+placeIn (Refused r) = r .place
+
+by-row : (c : Bool) (k q n p : ℕ) (rs : List Row) → (lowest rs ≡ refusalOf n p → Given rs n p) → cond c (refusalOf k q) (lowest rs) ≡ refusalOf n p → Given (rowAt c k q ∷ rs) n p
+unfolding Silent numberIn placeIn
+by-row true k q n p rs f e =
+    let a : k ≡ n = ap numberIn e in
+    let b : q ≡ p = ap placeIn e in
+    record { before = []; after = rs; split = rw (a, b); silent = tt }
+by-row false k q n p rs f e =
+    let g = f e in
+    record { before = rowAt false k q ∷ g .before; after = g .after; split = ap (λ (l : List Row). rowAt false k q ∷ l) (g .split); silent = (refl, g .silent) }
+
+pub refused-given : (rows : List Row) (n p : ℕ) → lowest rows ≡ refusalOf n p → Given rows n p
+unfolding lowest
+refused-given [] n p e = let z : _≡_ {A = ℕ} 0 1 = cc in absurd (impossible z)
+  where
+    impossible : _≡_ {A = ℕ} 0 1 → ⊥
+    impossible z = omega arith
+refused-given (r ∷ rs) n p e = by-row (r .applies) (r .number) (r .place) n p rs (refused-given rs n p) e
+
+by-silence : (c : Bool) (k q : ℕ) (rs : List Row) → (lowest rs ≡ Accepted → Silent rs) → cond c (refusalOf k q) (lowest rs) ≡ Accepted → (c ≡ false) × Silent rs
+by-silence true k q rs f e = let z : _≡_ {A = ℕ} 0 1 = cc in absurd (impossible z)
+  where
+    impossible : _≡_ {A = ℕ} 0 1 → ⊥
+    impossible z = omega arith
+by-silence false k q rs f e = (refl, f e)
+
+pub accepted-silent : (rows : List Row) → lowest rows ≡ Accepted → Silent rows
+unfolding lowest Silent
+accepted-silent [] e = tt
+accepted-silent (r ∷ rs) e = by-silence (r .applies) (r .number) (r .place) rs (accepted-silent rs) e

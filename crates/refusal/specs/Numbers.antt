@@ -1,0 +1,47 @@
+-- The numbers of document 01's table, by the names that the code has for them. Assumes nothing.
+use Prim.Native.Nat.{ℕ}
+
+abbrev pub size : ℕ
+size = 1
+
+abbrev pub samples : ℕ
+samples = 2
+
+abbrev pub threshold : ℕ
+threshold = 3
+
+abbrev pub sample : ℕ
+sample = 4
+
+abbrev pub settings : ℕ
+settings = 5
+
+abbrev pub catalogue : ℕ
+catalogue = 6
+
+abbrev pub recordRule : ℕ
+recordRule = 7
+
+abbrev pub directions : ℕ
+directions = 8
+
+abbrev pub demand : ℕ
+demand = 9
+
+abbrev pub room : ℕ
+room = 10
+
+abbrev pub ranking : ℕ
+ranking = 11
+
+abbrev pub few : ℕ
+few = 12
+
+abbrev pub noFit : ℕ
+noFit = 13
+
+abbrev pub close : ℕ
+close = 14
+
+abbrev pub pixel : ℕ
+pixel = 15

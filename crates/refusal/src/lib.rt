@@ -1,0 +1,59 @@
+// Number and place of a refusal: document 01's table. A later number is one constant here, one in specs/Numbers, and a row where it is given.
+ghost use mathlib.Core.Path.{_≡_};
+ghost use Rattle.refusal.specs.Table.{refusalOf};
+
+// The width or the height of the frame is out of range.
+pub const SIZE: u32 = 1;
+// The samples lent are not width x height.
+pub const SAMPLES: u32 = 2;
+// The threshold is out of range.
+pub const THRESHOLD: u32 = 3;
+// A sample is above 4,095; the place is the first such sample's.
+pub const SAMPLE: u32 = 4;
+// The centre, the focal length or a position handed in is out of range.
+pub const SETTINGS: u32 = 5;
+// The catalogue's length is no multiple of a record's, or not that of 1 to 512 records.
+pub const CATALOGUE: u32 = 6;
+// A record breaks its rule; the place is the first such record's.
+pub const RECORD: u32 = 7;
+// The direction list is not in threes, has more than 8, or a component is out of range; or a vector's component is.
+pub const DIRECTIONS: u32 = 8;
+// The needed count or the tolerance is out of range.
+pub const DEMAND: u32 = 9;
+// The lent ranking room is too short.
+pub const ROOM: u32 = 10;
+// The ranking read has the wrong length, or an entry that is out of range or repeated; the place is the first such entry's.
+pub const RANKING: u32 = 11;
+// Fewer directions than needed.
+pub const FEW: u32 = 12;
+// No assignment fits.
+pub const NO_FIT: u32 = 13;
+// The two stars are too close, on either side.
+pub const CLOSE: u32 = 14;
+// The pixel asked for is outside the frame.
+pub const PIXEL: u32 = 15;
+
+pub struct Refusal {
+    pub number: u32,
+    pub place: usize,
+}
+
+// What a call comes to before its work: it may go on, or it is refused.
+pub enum Outcome {
+    Accepted,
+    Refused(Refusal),
+}
+
+// A refusal that names a place.
+pub fn at(number: u32, place: usize) -> Outcome
+    ensures { λ r. ⌜ r ≡ refusalOf number place ⌝ }
+{
+    Outcome::Refused(Refusal { number, place })
+}
+
+// A refusal that names none: its place is 0.
+pub fn plain(number: u32) -> Outcome
+    ensures { λ r. ⌜ r ≡ refusalOf number 0 ⌝ }
+{
+    at(number, 0)
+}
