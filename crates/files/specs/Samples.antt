@@ -1,0 +1,36 @@
+-- The frame file: "2 bytes a sample, high byte first", of exactly width x height samples and at most 32,000. Assumes nothing.
+use mathlib.Core.Bool.{Bool, true, false, cond, _&&_, and-eq-true-iff}
+use mathlib.Core.List.{List, [], _∷_, _++_}
+use mathlib.Core.Path.{_≡_, refl}
+use borrow.Author.Tests.{leb-true, eqb-true}
+use Prim.Native.Nat.{ℕ, zero, suc, _+_, _*_, _≤_}
+use native.Mathlib.Omega.{arith}
+use native.Mathlib.Numerals.{add-one}
+use lib.Dec.{leb, eqb}
+use Rattle.files.specs.Number.{numberAt}
+
+-- how many samples a file of this length holds: none where the length is another, or where there are too many
+unfoldable pub sampleCount : ℕ → ℕ → ℕ → ℕ
+sampleCount len width height =
+    cond (leb width 1024 && leb height 1024 && eqb len (2 * (width * height)) && leb (width * height) 32000) (width * height) 0
+
+-- the first n samples
+unfoldable pub samplesOf : List ℕ → ℕ → List ℕ
+samplesOf bytes zero = []
+samplesOf bytes (suc n) = samplesOf bytes n ++ (numberAt bytes (2 * n) 2 ∷ [])
+
+pub samples-next : (bytes : List ℕ) (n : ℕ) → samplesOf bytes (n + 1) ≡ samplesOf bytes n ++ (numberAt bytes (2 * n) 2 ∷ [])
+unfolding samplesOf
+samples-next bytes n = rw add-one
+
+-- what is taken stands in the file, and fits the room
+counted : (p q : Bool) (len n : ℕ) → (p && eqb len (2 * n) && leb n 32000) ≡ q → (2 * cond q n 0 ≤ len) × (cond q n 0 ≤ 32000)
+counted p false len n e = omega arith
+counted p true len n e =
+    let a = and-eq-true-iff (p && eqb len (2 * n)) (leb n 32000) .0 e in
+    let b = and-eq-true-iff p (eqb len (2 * n)) .0 (a .0) in
+    omega (arith, eqb-true len (2 * n) (b .1), leb-true n 32000 (a .1))
+
+pub count-fits : (len width height : ℕ) → (2 * sampleCount len width height ≤ len) × (sampleCount len width height ≤ 32000)
+unfolding sampleCount
+count-fits len width height = counted (leb width 1024 && leb height 1024) _ len (width * height) refl

@@ -1,0 +1,28 @@
+-- The settings file: "32 bytes, high byte first: width, height, threshold, needed as 2 bytes each; cx, cy, F as 4; four spare bytes, not looked at;
+-- T as 8; all unsigned". Another length is refused with 1. Assumes nothing.
+use mathlib.Core.Bool.{cond}
+use mathlib.Core.List.{List}
+use Prim.Native.Nat.{ℕ}
+use lib.Dec.{eqb}
+use lib.ListN.{length}
+use Rattle.refusal.specs.Numbers.{size}
+use Rattle.files.specs.declared.Settings.{Settings}
+use Rattle.files.specs.declared.Reading.{Reading}
+use Rattle.files.specs.declared.Reading.the-variants.{Refused, Read}
+use Rattle.files.specs.Number.{numberAt}
+
+unfoldable pub settingsOf : List ℕ → Settings
+settingsOf bytes =
+    record {
+      width = numberAt bytes 0 2;
+      height = numberAt bytes 2 2;
+      threshold = numberAt bytes 4 2;
+      needed = numberAt bytes 6 2;
+      cx = numberAt bytes 8 4;
+      cy = numberAt bytes 12 4;
+      focal = numberAt bytes 16 4;
+      tolerance = numberAt bytes 24 8;
+    }
+
+unfoldable pub readingOf : List ℕ → Reading
+readingOf bytes = cond (eqb (length bytes) 32) (Read (settingsOf bytes)) (Refused (record { number = size; place = 0 }))
