@@ -1,0 +1,3 @@
+-- The definitions that the contracts of `direction` cite, and their laws.
+pub mod List
+pub mod ListSteps
