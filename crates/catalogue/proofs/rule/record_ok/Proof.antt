@@ -1,0 +1,95 @@
+-- `catalogue::rule::record_ok` meets its contract. Assumes nothing.
+use mathlib.Core.Bool.{Bool, true, false}
+use mathlib.Core.Path.{_≡_, sym, ap, _∙_}
+use borrow.Author.Tests.{not-true, not-false}
+use Prim.Native.Nat.{ℕ}
+use lib.Dec.{ltb}
+use mir.Syntax.{w32, w64}
+use Rattle.numbers.specs.Num.{Num, held, cast, fits, back}
+use Rattle.catalogue.specs.Format.{componentOf, identityOf}
+use Rattle.catalogue.specs.Rule.{directionOk}
+use Rattle.catalogue.specs.RuleSteps.{starOk, star-broken, star-kept, rises-first, rises-next}
+use borrow.Author.Needs.{needs}
+use Rattle.catalogue.proofs.rule.record_ok.Statement.{statement}
+use Rattle.catalogue.proofs.rule.record_ok.Tie as tie
+
+abbrev x : tie.After-component → Num w64
+x c = cast {w = w32} (held (c .component .result) (c .component .ok)) tt
+
+abbrev y : tie.After-component2 → Num w64
+y c = cast {w = w32} (held (c .component2 .result) (c .component2 .ok)) tt
+
+abbrev z : tie.After-component3 → Num w64
+z c = cast {w = w32} (held (c .component3 .result) (c .component3 .ok)) tt
+
+-- the test of the direction, of the numbers that the record holds
+tested : (c : tie.After-direction-ok) → c .direction-ok .result ≡ starOk (c .before .before .before .before .before .args .bytes .now) (c .before .before .before .before .before .args .i)
+tested c =
+    let p = c .before in
+    let q = p .before in
+    let ex = back (x (q .before)) ∙ q .before .component .ensures in
+    let ey = back (y q) ∙ q .component2 .ensures in
+    let ez = back (z p) ∙ p .component3 .ensures in
+    c .direction-ok .ensures ∙ (λ j. directionOk (ex j) (ey j) (ez j))
+
+kept : (c : tie.Else1) → starOk (c .before .before .before .before .before .before .args .bytes .now) (c .before .before .before .before .before .before .args .i) ≡ true
+kept c = sym (tested (c .before)) ∙ not-false _ (c .if1 .left)
+
+component-requires : tie.Need-component-requires
+component-requires c κs = search needs
+
+cast-x : tie.Need-cast-x
+cast-x c = fits (x c)
+
+component-requires-2 : tie.Need-component-requires-2
+component-requires-2 c κs = search needs
+
+cast-y : tie.Need-cast-y
+cast-y c = fits (y c)
+
+component-requires-3 : tie.Need-component-requires-3
+component-requires-3 c κs = search needs
+
+cast-z : tie.Need-cast-z
+cast-z c = fits (z c)
+
+direction-ok-requires : tie.Need-direction-ok-requires
+direction-ok-requires c κs = search needs
+
+returns : tie.Need-returns
+returns c = sym (star-broken _ _ (sym (tested (c .before)) ∙ not-true _ (c .if1 .taken)))
+
+returns-2 : tie.Need-returns-2
+returns-2 c = sym (star-kept _ _ (kept (c .before)) ∙ rises-first _ _ (c .if2 .taken))
+
+sub-identity : tie.Need-sub-identity
+sub-identity c = search needs
+
+identity-requires : tie.Need-identity-requires
+identity-requires c κs = search needs
+
+identity-requires-2 : tie.Need-identity-requires-2
+identity-requires-2 c κs = search needs
+
+returns-3 : tie.Need-returns-3
+returns-3 c =
+    let p = c .before .before in
+    (λ j. ltb (c .before .identity .ensures j) (c .identity2 .ensures j)) ∙ sym (star-kept _ _ (kept (p .before)) ∙ rises-next _ _ (p .if2 .left))
+
+pub record-ok-spec : {M : Type 1} → statement M
+record-ok-spec =
+    tie.close
+    (tie.spec
+    component-requires
+    cast-x
+    component-requires-2
+    cast-y
+    component-requires-3
+    cast-z
+    direction-ok-requires
+    returns
+    returns-2
+    sub-identity
+    identity-requires
+    identity-requires-2
+    returns-3)

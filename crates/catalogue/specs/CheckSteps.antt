@@ -1,0 +1,38 @@
+-- What the check of a catalogue gives, one row at a time, as the code meets them. Assumes nothing.
+use mathlib.Core.Bool.{Bool, true, false, not}
+use mathlib.Core.Path.{_≡_, refl, ap, _∙_}
+use mathlib.Core.List.{List, [], _∷_}
+use Prim.Native.Nat.{ℕ, _≤_, _<_}
+use borrow.Author.Tests.{lt-ltb, le-ltb}
+use lib.ListN.{length}
+use Rattle.refusal.specs.declared.Outcome.{Outcome}
+use Rattle.refusal.specs.declared.Outcome.the-variants.{Accepted}
+use Rattle.refusal.specs.Numbers.{catalogue, recordRule}
+use Rattle.refusal.specs.Table.{refusalOf, row, rowAt, lowest, answered}
+use Rattle.refusal.specs.Laws.{lowest-here, lowest-next, silent-accepted, Silent}
+use Rattle.catalogue.specs.declared.Checked.{Checked}
+use Rattle.catalogue.specs.declared.Checked.the-variants.{Refused, Records}
+use Rattle.catalogue.specs.Format.{recordsIn}
+use Rattle.catalogue.specs.Check.{lengthOk, brokenOf, recordBroken, refusalsOf, checkedOf}
+
+module _ (bytes : List ℕ) where
+  -- what the check gives for an outcome
+  pub checked : {o : Outcome} → lowest (refusalsOf bytes) ≡ o → checkedOf bytes ≡ answered Refused (Records (recordsIn bytes)) o
+  unfolding checkedOf
+  checked e = ap (λ (o : Outcome). answered Refused (Records (recordsIn bytes)) o) e
+
+  pub wrong-length : lengthOk (length bytes) ≡ false → lowest (refusalsOf bytes) ≡ refusalOf catalogue 0
+  unfolding refusalsOf
+  wrong-length e = lowest-here _ _ (ap not e)
+
+  module _ (e : lengthOk (length bytes) ≡ true) where
+    next : {o : Outcome} → lowest (rowAt (recordBroken bytes) recordRule (brokenOf bytes) ∷ []) ≡ o → lowest (refusalsOf bytes) ≡ o
+    unfolding refusalsOf
+    next h = lowest-next _ _ (ap not e) ∙ h
+
+    pub one-broken : brokenOf bytes < recordsIn bytes → lowest (refusalsOf bytes) ≡ refusalOf recordRule (brokenOf bytes)
+    one-broken h = next (lowest-here _ _ (lt-ltb _ _ h))
+
+    pub none-broken : recordsIn bytes ≤ brokenOf bytes → lowest (refusalsOf bytes) ≡ Accepted
+    unfolding Silent
+    none-broken h = next (silent-accepted _ (le-ltb _ _ h, tt))

@@ -1,0 +1,32 @@
+-- The catalogue's format: "records of 16 bytes, no header: identity (unsigned, 4 bytes), then x, y, z (signed, 4 bytes each), high byte first".
+-- Assumes nothing.
+use mathlib.Core.Bool.{cond}
+use mathlib.Core.List.{List}
+use Prim.Native.Nat.{ℕ, _+_, _*_, _/_}
+use lib.Dec.{ltb}
+use lib.IntN.{ℤ, pos, _-ℤ_}
+use lib.ListN.{length, getD}
+
+-- how many bytes a record has
+abbrev pub recordSize : ℕ
+recordSize = 16
+
+-- how many whole records there are
+abbrev pub recordsIn : List ℕ → ℕ
+recordsIn bytes = length bytes / recordSize
+
+-- the four bytes from a place on, high byte first
+unfoldable pub wordAt : List ℕ → ℕ → ℕ
+wordAt bytes at = 16777216 * getD bytes at 0 + 65536 * getD bytes (at + 1) 0 + 256 * getD bytes (at + 2) 0 + getD bytes (at + 3) 0
+
+-- a word read as a signed number: from 2^31 on it stands for the number that is 2^32 below it
+unfoldable pub signedOf : ℕ → ℤ
+signedOf w = cond (ltb w 2147483648) (pos w) (pos w -ℤ pos 4294967296)
+
+-- the identity of record i
+unfoldable pub identityOf : List ℕ → ℕ → ℕ
+identityOf bytes i = wordAt bytes (recordSize * i)
+
+-- its component 0, 1 or 2: x, y or z
+unfoldable pub componentOf : List ℕ → ℕ → ℕ → ℤ
+componentOf bytes i axis = signedOf (wordAt bytes (recordSize * i + (4 + 4 * axis)))

@@ -1,0 +1,8 @@
+-- The definitions that the contracts of `catalogue` cite, and their laws.
+pub mod Format
+pub mod Signed
+pub mod Rule
+pub mod RuleSteps
+pub mod First
+pub mod Check
+pub mod CheckSteps

@@ -1,0 +1,28 @@
+-- The rule of a record: "identities rise strictly; each component lies within ±10^9; x² + y² + z² differs from 10^18 by at most 4 x 10^9".
+-- Assumes nothing.
+use mathlib.Core.Bool.{Bool, true, _&&_}
+use mathlib.Core.List.{List}
+use Prim.Native.Nat.{ℕ, zero, suc}
+use lib.Dec.{leb, ltb}
+use lib.IntN.{ℤ, pos, natAbs, _+ℤ_, _-ℤ_, _*ℤ_}
+use Rattle.catalogue.specs.Format.{identityOf, componentOf}
+
+abbrev pub inRange : ℤ → Bool
+inRange z = leb (natAbs z) 1000000000
+
+abbrev pub squares : ℤ → ℤ → ℤ → ℤ
+squares x y z = x *ℤ x +ℤ y *ℤ y +ℤ z *ℤ z
+
+abbrev pub normOk : ℤ → ℤ → ℤ → Bool
+normOk x y z = leb (natAbs (squares x y z -ℤ pos 1000000000000000000)) 4000000000
+
+unfoldable pub directionOk : ℤ → ℤ → ℤ → Bool
+directionOk x y z = inRange x && inRange y && inRange z && normOk x y z
+
+-- the identity is judged against the record before; the first has none before it
+unfoldable pub identityRises : List ℕ → ℕ → Bool
+identityRises bytes zero = true
+identityRises bytes (suc i) = ltb (identityOf bytes i) (identityOf bytes (suc i))
+
+unfoldable pub recordOk : List ℕ → ℕ → Bool
+recordOk bytes i = directionOk (componentOf bytes i 0) (componentOf bytes i 1) (componentOf bytes i 2) && identityRises bytes i

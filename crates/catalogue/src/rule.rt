@@ -1,0 +1,65 @@
+// The rule of a record: its components, its norm, and its identity above that of the record before.
+use crate::RECORD_SIZE;
+use crate::format;
+ghost use mathlib.Core.Path.{_≡_};
+ghost use Prim.Native.Nat.{_+_, _*_, _<_, _≤_};
+ghost use lib.ListN.{length};
+ghost use Rattle.catalogue.specs.Format.{recordSize};
+ghost use Rattle.catalogue.specs.Rule.{directionOk, recordOk};
+ghost use Rattle.catalogue.specs.Check.{brokenOf};
+
+// How far from 0 a component may lie.
+const LARGEST: u64 = 1000000000;
+
+// What the sum of a direction's squares is to be, and how far from that it may lie.
+const NORM: i64 = 1000000000000000000;
+
+const SLACK: u64 = 4000000000;
+
+// Whether three numbers are a star's direction.
+fn direction_ok(x: i64, y: i64, z: i64) -> bool
+    ensures { λ r. ⌜ r ≡ directionOk x y z ⌝ }
+{
+    if !numbers::within(x, LARGEST) {
+        return false;
+    }
+    if !numbers::within(y, LARGEST) {
+        return false;
+    }
+    if !numbers::within(z, LARGEST) {
+        return false;
+    }
+    numbers::within(x * x + y * y + z * z - NORM, SLACK)
+}
+
+// Whether record i keeps its rule.
+fn record_ok(bytes: &[u8], i: usize) -> bool
+    requires { ⌜ recordSize * i + recordSize ≤ length (now bytes) ⌝ }
+    ensures { λ r. ⌜ r ≡ recordOk (now (bytes .entry)) i ⌝ }
+{
+    let x = format::component(bytes, i, 0) as i64;
+    let y = format::component(bytes, i, 1) as i64;
+    let z = format::component(bytes, i, 2) as i64;
+    if !direction_ok(x, y, z) {
+        return false;
+    }
+    if i == 0 {
+        return true;
+    }
+    format::identity(bytes, i - 1) < format::identity(bytes, i)
+}
+
+// The first record that breaks its rule, or the number of records where each keeps it.
+pub fn first_broken(bytes: &[u8]) -> usize
+    ensures { λ r. ⌜ r ≡ brokenOf (now (bytes .entry)) ⌝ }
+{
+    let n = bytes.len() / RECORD_SIZE;
+    let mut i = 0;
+    while i < n {
+        if !record_ok(bytes, i) {
+            return i;
+        }
+        i += 1;
+    }
+    n
+}
