@@ -6,3 +6,6 @@ pub mod RuleSteps
 pub mod First
 pub mod Check
 pub mod CheckSteps
+pub mod Stars
+pub mod StarsLaws
+pub mod Filled

@@ -4,9 +4,11 @@ mod rule;
 
 use refusal::Refusal;
 ghost use mathlib.Core.Path.{_≡_};
+ghost use Prim.Native.Nat.{_≤_};
 ghost use lib.ListN.{length};
 ghost use Rattle.catalogue.specs.Format.{recordsIn};
 ghost use Rattle.catalogue.specs.Check.{lengthOk, checkedOf};
+ghost use Rattle.catalogue.specs.Stars.{starsIn, starsOf, padded, identityFor};
 
 // How many bytes a record has.
 pub const RECORD_SIZE: usize = 16;
@@ -60,4 +62,36 @@ pub fn check(bytes: &[u8]) -> Checked
         });
     }
     Checked::Records(n)
+}
+
+// How many records are decoded.
+fn stars_in(bytes: &[u8]) -> usize
+    ensures { λ r. ⌜ r ≡ starsIn (now (bytes .entry)) ⌝ }
+{
+    let n = records(bytes);
+    if n < MOST_RECORDS { n } else { MOST_RECORDS }
+}
+
+// The stars of a catalogue as numbers, x, y and z of each in turn, with zeros behind the last.
+pub fn stars(bytes: &[u8]) -> [i32; 1536]
+    ensures { λ r. ⌜ r ≡ padded (starsOf (now (bytes .entry))) ⌝ }
+{
+    let count = 3 * stars_in(bytes);
+    let mut numbers = [0i32; 1536];
+    let mut k = 0;
+    while k < count {
+        numbers[k] = format::component(bytes, k / 3, k % 3);
+        k += 1;
+    }
+    numbers
+}
+
+// The identity of record i, and 0 where there is no such record.
+pub fn identity(bytes: &[u8], i: usize) -> u32
+    ensures { λ r. ⌜ r ≡ identityFor (now (bytes .entry)) i ⌝ }
+{
+    if i < records(bytes) {
+        return format::identity(bytes, i);
+    }
+    0
 }
