@@ -1,0 +1,4 @@
+-- The definitions that the contracts of `window` cite, and their laws.
+pub mod Window
+pub mod Laws
+pub mod Place
