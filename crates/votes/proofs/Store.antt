@@ -1,0 +1,26 @@
+-- Lists whose numbers are within a bound: all zeros, and one number stored. Assumes nothing.
+use mathlib.Core.Path.{_≡_, refl, sym, ap, subst, _∙_}
+use mathlib.Core.List.{List, []}
+use Prim.Native.Nat.{ℕ, zero, suc, _<_}
+use native.Mathlib.Decide.{ℕ-discrete}
+use native.Mathlib.Omega.{arith}
+use lib.IntN.{ℤ, pos}
+use lib.ListN.{length, getD, set, replicate, List·getD-eq-default}
+use lib.Seq.{getD-set-same, getD-set-other}
+use Rattle.numbers.specs.Within.{Within}
+use Rattle.vectors.specs.Triples.{AllWithin}
+
+pub at-zeros : {A : Type 0} (z : A) (n k : ℕ) → getD (replicate n z) k z ≡ z
+at-zeros z zero k = List·getD-eq-default [] z {n = k} (omega arith)
+at-zeros z (suc n) zero = refl
+at-zeros z (suc n) (suc k) = at-zeros z n k
+
+pub within-zeros : (n b : ℕ) → AllWithin b (replicate n (pos 0))
+within-zeros n b = record { at = λ k. subst (Within b) (sym (at-zeros (pos 0) n k)) (record { within = omega arith }) }
+
+at-set : {b : ℕ} (l : List ℤ) (j k : ℕ) (x : ℤ) → j < length l → AllWithin b l → Within b x → Dec (k ≡ j) → Within b (getD (set l j x) k (pos 0))
+at-set {b} l j k x h all near (yes e) = subst (Within b) (sym (ap (λ (n : ℕ). getD (set l j x) n (pos 0)) e ∙ getD-set-same l j x (pos 0) h)) near
+at-set {b} l j k x h all near (no d) = subst (Within b) (sym (getD-set-other l j k x (pos 0) d)) (all .at k)
+
+pub within-set : {b : ℕ} (l : List ℤ) (j : ℕ) (x : ℤ) → j < length l → AllWithin b l → Within b x → AllWithin b (set l j x)
+within-set l j x h all near = record { at = λ k. at-set l j k x h all near (ℕ-discrete k j) }

@@ -1,0 +1,47 @@
+-- The laws of counting. Assumes nothing.
+use mathlib.Core.Bool.{Bool, true, false, cond}
+use mathlib.Core.Path.{_≡_, refl, sym, ap, _∙_}
+use Prim.Native.Nat.{ℕ, zero, suc, _+_, _*_, _≤_, _<_}
+use native.Mathlib.Nat.{mul-suc}
+use native.Mathlib.Numerals.{add-one}
+use native.Mathlib.Omega.{arith}
+use Rattle.votes.specs.Counting.{one, number, pairs}
+
+pub one-most : (b : Bool) → one b ≤ 1
+one-most true = omega arith
+one-most false = omega arith
+
+pub number-next : (n : ℕ) (test : ℕ → Bool) → number (n + 1) test ≡ number n test + one (test n)
+unfolding number
+number-next n test = rw add-one
+
+pub number-most : (n : ℕ) (test : ℕ → Bool) → number n test ≤ n
+unfolding number
+number-most zero test = omega arith
+number-most (suc n) test = omega (arith, number-most n test, one-most (test n))
+
+-- the tests of the numbers counted alone decide
+pub number-same : (n : ℕ) (f g : ℕ → Bool) → ((k : ℕ) → k < n → f k ≡ g k) → number n f ≡ number n g
+unfolding number
+number-same zero f g h = refl
+number-same (suc n) f g h = rw (number-same n f g (λ k l. h k (omega arith)), h n (omega arith))
+
+pub number-none : (n : ℕ) (test : ℕ → Bool) → ((k : ℕ) → k < n → test k ≡ false) → number n test ≡ 0
+unfolding number
+number-none zero test h = refl
+number-none (suc n) test h = rw (number-none n test (λ k l. h k (omega arith)), h n (omega arith))
+
+pub pairs-next : (m n : ℕ) (test : ℕ → ℕ → Bool) → pairs m (n + 1) test ≡ pairs m n test + number m (λ j. test j n)
+unfolding pairs
+pairs-next m n test = rw add-one
+
+-- at most `most` for each of the second numbers
+pub pairs-most : (most m n : ℕ) (test : ℕ → ℕ → Bool) → m ≤ most → pairs m n test ≤ most * n
+unfolding pairs
+pairs-most most m zero test h = omega arith
+pairs-most most m (suc n) test h = omega (arith, pairs-most most m n test h, number-most m (λ j. test j n), mul-suc most n)
+
+pub pairs-same : (m n : ℕ) (f g : ℕ → ℕ → Bool) → ((j b : ℕ) → j < m → f j b ≡ g j b) → pairs m n f ≡ pairs m n g
+unfolding pairs
+pairs-same m zero f g h = refl
+pairs-same m (suc n) f g h = rw (pairs-same m n f g h, number-same m (λ j. f j n) (λ j. g j n) (λ j l. h j n l))

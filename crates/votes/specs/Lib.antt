@@ -1,0 +1,5 @@
+-- The definitions that the contracts cite, and their laws.
+pub mod Counting
+pub mod CountingLaws
+pub mod Votes
+pub mod Laws

@@ -1,0 +1,42 @@
+-- The votes of the stars for one direction. Directions and stars are lists in threes. Assumes nothing.
+use mathlib.Core.Bool.{Bool, cond, not, _&&_}
+use mathlib.Core.List.{List, [], _∷_, _++_}
+use Prim.Native.Nat.{ℕ, zero, suc, _/_, _≤_}
+use lib.Dec.{ltb, eqb}
+use lib.IntN.{ℤ}
+use lib.ListN.{length}
+use Rattle.vectors.specs.Triples.{AllWithin, pairDot}
+use Rattle.vectors.specs.Agree.{agreeing}
+use Rattle.votes.specs.Counting.{pairs}
+
+-- how many triples a list has
+abbrev pub triples : List ℤ → ℕ
+triples list = length list / 3
+
+-- at most so many triples, each number within ±10^9
+pub record Listed (most : ℕ) (list : List ℤ) : Type 0 where
+  pub few : triples list ≤ most
+  pub near : AllWithin 1000000000 list
+
+-- one number is another than the other
+abbrev pub other : ℕ → ℕ → Bool
+other k n = not (eqb k n)
+
+-- "j other than i and b other than a for which the pair i, j agrees with the pair a, b"
+abbrev pub isVote : List ℤ → List ℤ → ℕ → ℕ → ℕ → ℕ → ℕ → Bool
+isVote directions stars tolerance i a j b =
+    other j i && (other b a && agreeing (pairDot directions i j) (pairDot stars a b) tolerance)
+
+-- "the votes of star a for direction i: the number of (j, b)" that are such
+unfoldable pub votesOf : List ℤ → List ℤ → ℕ → ℕ → ℕ → ℕ
+votesOf directions stars tolerance i a = pairs (triples directions) (triples stars) (isVote directions stars tolerance i a)
+
+-- what f gives for 0 .. n - 1
+unfoldable pub firsts : ℕ → (ℕ → ℕ) → List ℕ
+firsts zero f = []
+firsts (suc n) f = firsts n f ++ (f n ∷ [])
+
+-- "votes for one direction are collected in 512 counters that start at zero": counters beyond the stars stay there
+unfoldable pub countersOf : List ℤ → List ℤ → ℕ → ℕ → List ℕ
+countersOf directions stars tolerance i =
+    firsts 512 (λ a. cond (ltb a (triples stars)) (votesOf directions stars tolerance i a) 0)
