@@ -1,0 +1,7 @@
+-- The laws of the definitions, for the proofs of the crates above.
+pub mod Tests
+pub mod Search
+pub mod Unique
+pub mod Fit
+pub mod Pigeon
+pub mod Run

@@ -1,0 +1,6 @@
+-- The definitions that a search's contract cites. Their laws stand in proofs/.
+pub mod Order
+pub mod Tests
+pub mod Problem
+pub mod Fit
+pub mod Run
