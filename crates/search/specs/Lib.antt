@@ -1,0 +1,2 @@
+-- The definitions that the contracts cite, and what they are for.
+pub mod Once
