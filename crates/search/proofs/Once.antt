@@ -17,6 +17,7 @@ use Rattle.assignment.proofs.Pigeon.{Into, onto}
 use Rattle.search.specs.declared.Judgement.{Judgement}
 use Rattle.search.specs.declared.Judgement.the-variants.{Good, Bad}
 use Rattle.search.specs.Once.{rankingOf, word, clash, clashAt, firstOf, judged, lentOf}
+use Rattle.search.proofs.Rows.{row-fits}
 use Rattle.search.proofs.First.{IsFirst, first-is, first-of}
 
 -- ---- one word
@@ -43,13 +44,6 @@ module _ (words : List ℕ) (stars base k : ℕ) where
   free-once e l h = eqb-false (word words base l) (word words base k) (tests.none-some k _ (tests.none-right (leb stars (word words base k)) _ e) l h)
 
 -- ---- rows
-
--- row i ends where the next begins
-pub row-fits : (i n m : ℕ) → i < n → i * m + m ≤ n * m
-row-fits i n m l =
-    let h : suc i * m ≤ n * m = mul-le-mul-right m l in
-    let e : suc i * m ≡ i * m + m = suc-mul i m in
-    omega arith
 
 module _ (words : List ℕ) (stars : ℕ) where
   pub at-row : (i k : ℕ) → k < stars → clashAt words stars (i * stars + k) ≡ clash words stars (i * stars) k

@@ -11,6 +11,7 @@ use lib.ListN.{getD, set, length, length-set, replicate, length-replicate}
 use lib.Dec.{eqb}
 use borrow.Author.Tests.{eqb-true, eqb-false}
 use Rattle.search.specs.Once.{word}
+use Rattle.search.proofs.Words.{zeros-at}
 
 pub record Seen (words : List ℕ) (base k : ℕ) (seen : List ℕ) : Type 0 where
   pub size : 512 ≤ length seen
@@ -54,10 +55,5 @@ module _ (words : List ℕ) (base k : ℕ) (seen : List ℕ) (h : Seen words bas
       less : (l : ℕ) → l < k + 1 → (word words base l ≡ w → ⊥) → l < k
       less l ll d = ⊎-elim (λ (e : l ≡ k). absurd (d (ap (word words base) e ∙ sym q))) (λ (e : l < k). e) (eq-or-lt-of-le (omega arith))
 
-blank-at : (n w : ℕ) → _≡_ {A = ℕ} (getD (replicate n 0) w 0) 0
-blank-at zero w = refl
-blank-at (suc n) zero = refl
-blank-at (suc n) (suc w) = blank-at n w
-
 pub blank : (words : List ℕ) (base n : ℕ) → 512 ≤ n → Seen words base 0 (replicate n 0)
-blank words base n h = record { size = rw (length-replicate {A = ℕ} n 0) h; marks = λ l ll. absurd (omega arith); only = λ w. inl (blank-at n w) }
+blank words base n h = record { size = rw (length-replicate {A = ℕ} n 0) h; marks = λ l ll. absurd (omega arith); only = λ w. inl (zeros-at n w) }

@@ -1,2 +1,3 @@
 -- The definitions that the contracts cite, and what they are for.
 pub mod Once
+pub mod Fit

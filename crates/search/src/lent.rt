@@ -1,15 +1,10 @@
 // The test of a ranking that is handed in: each row names each star exactly once.
 use crate::Judgement;
+use crate::index;
 ghost use mathlib.Core.Path.{_≡_};
 ghost use Prim.Native.Nat.{_+_, _≤_};
 ghost use lib.ListN.{length};
 ghost use Rattle.search.specs.Once.{clash, firstOf, lentOf};
-
-pub fn index(word: u16) -> usize
-    ensures { λ r. ⌜ r ≡ word ⌝ }
-{
-    word as usize
-}
 
 // How many words of the row at `base` stand before the first that is out of range or repeats an earlier one. A table marks the stars seen.
 fn fresh_words(ranking: &[u16], base: usize, stars: usize) -> usize

@@ -1,8 +1,53 @@
 // The search: which star each direction is, by a ranking that is handed in.
 mod lent;
+mod fit;
+mod backtrack;
+
+ghost use mathlib.Core.Path.{_≡_};
+ghost use Rattle.search.specs.Fit.{setupOf, Input, FirstFit};
 
 // Whether a ranking that is handed in names each star once a row, or the place of its first word that does not belong.
 pub enum Judgement {
     Good,
     Bad(usize),
+}
+
+// How many directions and stars there are, how many directions need a star, and how far apart two dot products may be.
+pub struct Setup {
+    pub dirs: usize,
+    pub stars: usize,
+    pub needed: usize,
+    pub tolerance: u64,
+}
+
+// Whether an assignment was found, and its words: for each direction the star's record number, or the number of stars for none.
+pub struct Answer {
+    pub found: bool,
+    pub stars: [u16; 8],
+}
+
+fn index(word: u16) -> usize
+    ensures { λ r. ⌜ r ≡ word ⌝ }
+{
+    word as usize
+}
+
+// The first assignment that fits, or that none does. The stars stand in threes, as the directions do.
+pub fn first_fit(
+    ranking: &[u16],
+    directions: &[i32],
+    stars: &[i32],
+    needed: usize,
+    tolerance: u64,
+) -> Answer
+    requires { ⌜ Input (setupOf (now directions) (now stars) needed tolerance) (now ranking) (now directions) (now stars) ⌝ }
+    ensures { λ r. ⌜ FirstFit (setupOf (now (directions .entry)) (now (stars .entry)) needed tolerance) (now (ranking .entry)) (now (directions .entry)) (now (stars .entry)) r ⌝ }
+{
+    let setup = Setup {
+        dirs: directions.len() / 3,
+        stars: stars.len() / 3,
+        needed: needed,
+        tolerance: tolerance,
+    };
+    backtrack::place(ranking, directions, stars, setup, [0u16; 8], 0, 0)
 }
