@@ -1,0 +1,4 @@
+-- The definitions that the contracts cite, and their laws.
+pub mod Row
+pub mod Ranking
+pub mod Laws

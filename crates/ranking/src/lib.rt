@@ -1,0 +1,38 @@
+// The ranking: one row of record numbers for each direction, by votes, in the lent room.
+mod row;
+
+ghost use mathlib.Core.Path.{_≡_};
+ghost use mathlib.Core.List.{_++_};
+ghost use Prim.Native.Nat.{_*_, _<_, _≤_};
+ghost use lib.ListN.{length, drop};
+ghost use Rattle.votes.specs.Votes.{triples, Listed};
+ghost use Rattle.ranking.specs.Ranking.{rowOf, rankingOf};
+
+// One row: the votes for direction i are collected, and the stars ranked by them.
+fn write_row(directions: &[i32], stars: &[i32], tolerance: u64, i: usize, row: &mut [u16])
+    requires { ⌜ Listed 8 (now directions) ⌝ }
+    requires { ⌜ Listed 512 (now stars) ⌝ }
+    requires { ⌜ (i < triples (now directions)) × (length (now row) ≡ triples (now stars)) ⌝ }
+    ensures { λ r. ⌜ now (row .exit) ≡ rowOf (now (directions .entry)) (now (stars .entry)) tolerance i ⌝ }
+{
+    let votes = votes::votes_for(directions, stars, tolerance, i);
+    row::write(&votes, row);
+}
+
+// The ranking of decoded stars. Each row has its own stretch of the room.
+pub fn write_ranking(directions: &[i32], stars: &[i32], tolerance: u64, room: &mut [u16])
+    requires { ⌜ Listed 8 (now directions) ⌝ }
+    requires { ⌜ Listed 512 (now stars) ⌝ }
+    requires { ⌜ triples (now directions) * triples (now stars) ≤ length (now room) ⌝ }
+    ensures { λ r. ⌜ now (room .exit) ≡ rankingOf (now (directions .entry)) (now (stars .entry)) tolerance ++ drop (triples (now (directions .entry)) * triples (now (stars .entry))) (now (room .entry)) ⌝ }
+{
+    let count = directions.len() / 3;
+    let words = stars.len() / 3;
+    let mut i: usize = 0;
+    while i < count {
+        let from = i * words;
+        let to = from + words;
+        write_row(directions, stars, tolerance, i, &mut room[from..to]);
+        i += 1;
+    }
+}
