@@ -1,0 +1,2 @@
+-- Searching and counting below a bound: the definitions and their laws.
+pub mod First
