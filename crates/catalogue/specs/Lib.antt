@@ -6,6 +6,10 @@ pub mod RuleSteps
 pub mod First
 pub mod Check
 pub mod CheckSteps
+pub mod Valid
+pub mod RuleLaws
+pub mod CheckLaws
 pub mod Stars
 pub mod StarsLaws
 pub mod Filled
+pub mod ValidStars
