@@ -46,12 +46,13 @@ module _ (directions stars : List ℤ) (tolerance : ℕ) (first : List ℕ) wher
   rows-none = rw zero-mul
 
   -- one row more: the part of the room that is direction i's is written
-  pub rows-more : (room row : List ℕ) (i m : ℕ) → m ≡ triples stars → room ≡ rows i ++ drop (i * m) first → row ≡ rowOf directions stars tolerance i
+  pub rows-more : (room row : List ℕ) (i : ℕ) → let m = triples stars in room ≡ rows i ++ drop (i * m) first → row ≡ rowOf directions stars tolerance i
       → take (i * m) room ++ (row ++ drop (i * m + m - i * m) (drop (i * m) room)) ≡ rows (i + 1) ++ drop ((i + 1) * m) first
   unfolding rowsOf
-  rows-more room row i m h e f =
+  rows-more room row i e f =
+      let m = triples stars in
       let k : i * m + m - i * m ≡ m = omega arith in
-      let l : length (rows i) ≡ i * m = rows-length directions stars tolerance i ∙ ap (λ (n : ℕ). i * n) (sym h) in
+      let l = rows-length directions stars tolerance i in
       let p = take-at (rows i) (drop (i * m) first) (i * m) l in
       let q : drop (i * m + m) (rows i ++ drop (i * m) first) ≡ drop (i * m + m) first = rw (← l, drop-append-add, drop-drop) in
       rw (f, k, e, p, drop-drop, q, add-one, suc-mul, append-assoc)

@@ -1,4 +1,5 @@
 -- The definitions that the contracts cite, and their laws.
 pub mod Row
 pub mod Ranking
+pub mod Places
 pub mod Laws
