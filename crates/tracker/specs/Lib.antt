@@ -1,0 +1,3 @@
+-- The definitions that the chain's contract cites, and their laws.
+pub mod Orient
+pub mod OrientLaws

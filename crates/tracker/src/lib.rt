@@ -1,0 +1,2 @@
+// The whole chain as one call.
+mod orient;
