@@ -1,0 +1,93 @@
+-- `attitude::triad` meets its contract: what `tested` leaves is in range and apart, so that both sides have axes. Assumes nothing.
+use borrow.Author.Needs.{needs}
+use mathlib.Core.Path.{_≡_, sym, ap, _∙_}
+use Prim.Native.Nat.{_^_, _≤_}
+use Rattle.refusal.specs.declared.Outcome.the-variants.{Accepted}
+use Rattle.refusal.specs.Table.{lowest}
+use Rattle.vectors.specs.Vectors.{crossOf}
+use Rattle.attitude.specs.declared.Matrix.{Matrix}
+use Rattle.attitude.specs.declared.Attitude.{Attitude}
+use Rattle.attitude.specs.declared.Attitude.the-variants.{Found}
+use Rattle.attitude.specs.Scale.{largestOf}
+use Rattle.attitude.specs.Side.{axesOf}
+use Rattle.attitude.specs.Entries.{productOf}
+use Rattle.attitude.specs.Attitude.{refusalsOf, matrixOf, attitudeOf, answerOf, answerFor}
+use Rattle.attitude.specs.Bounds.{axes-within}
+use Rattle.attitude.specs.Laws.{InRange, answers, by-refusal, by-acceptance, acceptable}
+use Rattle.attitude.proofs.triad.Statement.{statement}
+use Rattle.attitude.proofs.triad.Tie as tie
+
+-- the second promise follows from the first
+module _ (s : tie.Start) where
+  abbrev attitude : Attitude
+  attitude = attitudeOf (s .args .v1) (s .args .v2) (s .args .w1) (s .args .w2)
+
+  both : {r : Attitude} → attitude ≡ r → (r ≡ attitude) × (answerOf r ≡ answerFor (s .args .v1) (s .args .v2) (s .args .w1) (s .args .w2))
+  both e = (sym e, ap (λ (a : Attitude). answerOf a) (sym e) ∙ answers (s .args .v1) (s .args .v2) (s .args .w1) (s .args .w2))
+
+-- no row applies to vectors that are accepted
+module _ (c : tie.After-enum-told) where
+  abbrev start : tie.Start
+  start = c .before .before .before
+
+  silent : lowest (refusalsOf (start .args .v1) (start .args .v2) (start .args .w1) (start .args .w2)) ≡ Accepted
+  silent = sym (c .before .before .tested .ensures) ∙ c .enum-told .given .1
+
+  in-range : InRange (start .args .v1) (start .args .v2) (start .args .w1) (start .args .w2)
+  in-range = acceptable (start .args .v1) (start .args .v2) (start .args .w1) (start .args .w2) silent .0
+
+  camera-apart : 2 ^ 30 ≤ largestOf (crossOf (start .args .v1) (start .args .v2))
+  camera-apart = acceptable (start .args .v1) (start .args .v2) (start .args .w1) (start .args .w2) silent .1 .0
+
+  sky-apart : 2 ^ 30 ≤ largestOf (crossOf (start .args .w1) (start .args .w2))
+  sky-apart = acceptable (start .args .v1) (start .args .v2) (start .args .w1) (start .args .w2) silent .1 .1
+
+tested-requires : tie.Need-tested-requires
+tested-requires c κs = search needs
+
+enum-known-refusal : tie.Need-enum-known-refusal
+enum-known-refusal c = search needs
+
+enum-told : tie.Need-enum-told
+enum-told c = search needs
+
+axes-of-requires : tie.Need-axes-of-requires
+axes-of-requires c κs = (in-range c .v1, (in-range c .v2, camera-apart c))
+
+axes-of-requires-2 : tie.Need-axes-of-requires-2
+axes-of-requires-2 c κs = let o = c .before in (in-range o .w1, (in-range o .w2, sky-apart o))
+
+product-requires : tie.Need-product-requires
+product-requires c κs =
+    let o = c .before .before in
+    (rw (c .before .axes-of .ensures) (axes-within _ _ (in-range o .v1)), rw (c .axes-of2 .ensures) (axes-within _ _ (in-range o .w1)))
+
+returns : tie.Need-returns
+returns c =
+    let told = c .before .before .before in
+    let s = told .before in
+    let refused = c .before .refusal .given in
+    both s (by-refusal (s .args .v1) (s .args .v2) (s .args .w1) (s .args .w2) (refused .0 .0) (sym (told .tested .ensures) ∙ refused .1))
+
+returns-2 : tie.Need-returns-2
+unfolding matrixOf
+returns-2 c =
+    let o = c .before .before .before in
+    let s = start o in
+    let camera = c .before .before .axes-of .ensures in
+    let sky = c .before .axes-of2 .ensures in
+    let product = c .product .ensures ∙ (λ i. productOf (camera i) (sky i)) in
+    both s (by-acceptance (s .args .v1) (s .args .v2) (s .args .w1) (s .args .w2) (silent o) ∙ ap (λ (m : Matrix). Found m) (sym product))
+
+pub triad-spec : {M : Type 1} → statement M
+triad-spec =
+    tie.close
+    (tie.spec
+    tested-requires
+    enum-known-refusal
+    enum-told
+    axes-of-requires
+    axes-of-requires-2
+    product-requires
+    returns
+    returns-2)
