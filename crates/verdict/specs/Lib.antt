@@ -1,0 +1,3 @@
+-- The definitions that the contracts of `verdict` cite, and their laws.
+pub mod Verdict
+pub mod Laws

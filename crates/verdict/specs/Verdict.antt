@@ -1,0 +1,51 @@
+-- Document 01, "Frame and pixel verdicts": a pixel's verdict. Assumes nothing.
+use mathlib.Core.Bool.{Bool, true, false, cond, not, _&&_, _||_}
+use mathlib.Core.List.{List}
+use Prim.Native.Nat.{ℕ, _-_}
+use lib.Dec.{ltb, eqb}
+use Rattle.window.specs.Window.{at, beaten}
+use Rattle.centroid.specs.Centroid.{brightness, centroidOf}
+use Rattle.centroid.specs.declared.Centroid.{Centroid}
+use Rattle.verdict.specs.declared.Kind.{Kind}
+use Rattle.verdict.specs.declared.Kind.the-variants.{Dark, Beaten, Edge, Flat, Measured}
+use Rattle.verdict.specs.declared.Verdict.{Verdict}
+
+-- "its sample is below the threshold"
+abbrev pub dark : List ℕ → ℕ → ℕ → ℕ → ℕ → Bool
+dark samples width threshold row column = ltb (at samples width row column) threshold
+
+-- "fewer than 3 rows or columns lie between it and any side": left, right, top, bottom
+unfoldable pub edge : ℕ → ℕ → ℕ → ℕ → Bool
+edge width height row column =
+    ltb column 3 || (ltb (width - 1 - column) 3 || (ltb row 3 || ltb (height - 1 - row) 3))
+
+-- neither dark nor beaten
+unfoldable pub peak : List ℕ → ℕ → ℕ → ℕ → ℕ → ℕ → Bool
+peak samples width height threshold row column = not (dark samples width threshold row column) && not (beaten samples width height row column)
+
+-- what a pixel is that is neither: "flat: its brightness is 0", and "measured, with its position and brightness"
+unfoldable pub peakKind : List ℕ → ℕ → ℕ → ℕ → ℕ → Kind
+peakKind samples width height row column =
+    cond (edge width height row column) Edge
+    (cond (eqb (brightness samples width row column) 0) Flat
+    (Measured (centroidOf samples width row column)))
+
+-- "the first of these that applies"
+unfoldable pub kindOf : List ℕ → ℕ → ℕ → ℕ → ℕ → ℕ → Kind
+kindOf samples width height threshold row column =
+    cond (dark samples width threshold row column) Dark
+    (cond (beaten samples width height row column) Beaten
+    (peakKind samples width height row column))
+
+-- "one record of row, column and kind"
+abbrev pub verdictOf : List ℕ → ℕ → ℕ → ℕ → ℕ → ℕ → Verdict
+verdictOf samples width height threshold row column =
+    record { row = row; column = column; kind = kindOf samples width height threshold row column }
+
+-- the kinds by number, in document 01's order
+abbrev pub kindNumber : Kind → ℕ
+kindNumber Dark = 0
+kindNumber Beaten = 1
+kindNumber Edge = 2
+kindNumber Flat = 3
+kindNumber (Measured c) = 4
