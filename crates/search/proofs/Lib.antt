@@ -1,7 +1,6 @@
 -- The lemmas that several proofs share.
 pub mod Words
 pub mod Rows
-pub mod First
 pub mod Once
 pub mod Seen
 pub mod Rules

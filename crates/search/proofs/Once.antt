@@ -9,6 +9,7 @@ use native.Mathlib.Nat.{eq-or-lt-of-le, mul-le-mul-right, suc-mul, mul-add-div-r
 use lib.ListN.{getD, length}
 use lib.Dec.{leb, ltb, eqb}
 use borrow.Author.Tests.{le-leb, lt-leb, leb-false, eq-eqb, ne-eqb, eqb-true, eqb-false, lt-ltb, le-ltb, ltb-false}
+use Rattle.counting.specs.First.{first, first-is, first-of}
 use Rattle.assignment.specs.Order.{Ranked}
 use Rattle.assignment.specs.Tests.{some}
 use Rattle.assignment.proofs.Tests as tests
@@ -16,9 +17,8 @@ use Rattle.assignment.proofs.Tests.{le-or-lt, never, either}
 use Rattle.assignment.proofs.Pigeon.{Into, onto}
 use Rattle.search.specs.declared.Judgement.{Judgement}
 use Rattle.search.specs.declared.Judgement.the-variants.{Good, Bad}
-use Rattle.search.specs.Once.{rankingOf, word, clash, clashAt, firstOf, judged, lentOf}
+use Rattle.search.specs.Once.{rankingOf, word, clash, clashAt, judged, lentOf}
 use Rattle.search.proofs.Rows.{row-fits}
-use Rattle.search.proofs.First.{IsFirst, first-is, first-of}
 
 -- ---- one word
 
@@ -54,13 +54,13 @@ module _ (words : List ℕ) (stars : ℕ) where
       rw (d, m)
 
   -- the rows passed have no word that clashes, and one row more
-  pub rows-more : (i : ℕ) → ((q : ℕ) → q < i * stars → clashAt words stars q ≡ false) → stars ≤ firstOf stars (clash words stars (i * stars)) → (q : ℕ) → q < (i + 1) * stars → clashAt words stars q ≡ false
+  pub rows-more : (i : ℕ) → ((q : ℕ) → q < i * stars → clashAt words stars q ≡ false) → stars ≤ first (clash words stars (i * stars)) stars → (q : ℕ) → q < (i + 1) * stars → clashAt words stars q ≡ false
   rows-more i h full q l =
       ⊎-elim
       (λ (a : i * stars ≤ q).
       let e : q ≡ i * stars + (q - i * stars) = omega arith in
       let k : q - i * stars < stars = omega (arith, suc-mul i stars, ap (λ (z : ℕ). z * stars) (one-more i)) in
-      ap (clashAt words stars) e ∙ at-row i (q - i * stars) k ∙ first-is (clash words stars (i * stars)) stars .before (q - i * stars) (omega arith))
+      ap (clashAt words stars) e ∙ at-row i (q - i * stars) k ∙ first-is (clash words stars (i * stars)) stars .none (q - i * stars) (omega arith))
       (λ (a : q < i * stars). h q a)
       (le-or-lt (i * stars) q)
     where
@@ -74,30 +74,30 @@ module _ (words : List ℕ) (dirs stars : ℕ) where
   unfolding lentOf
   wrong-length d = rw (ne-eqb (length words) (dirs * stars) d)
 
-  pub first-bad : length words ≡ dirs * stars → (i k : ℕ) → i < dirs → ((q : ℕ) → q < i * stars → clashAt words stars q ≡ false) → k ≡ firstOf stars (clash words stars (i * stars)) → k < stars → Bad (i * stars + k) ≡ lentOf words dirs stars
+  pub first-bad : length words ≡ dirs * stars → (i k : ℕ) → i < dirs → ((q : ℕ) → q < i * stars → clashAt words stars q ≡ false) → k ≡ first (clash words stars (i * stars)) stars → k < stars → Bad (i * stars + k) ≡ lentOf words dirs stars
   unfolding lentOf
   first-bad e i k li h f lk =
       let w = first-is (clash words stars (i * stars)) stars in
       let le : i * stars + k < dirs * stars = omega (arith, row-fits i dirs stars li) in
-      let p : i * stars + k ≡ firstOf (dirs * stars) (clashAt words stars) =
-          first-of (clashAt words stars) (dirs * stars) (i * stars + k)
+      let p : i * stars + k ≡ first (clashAt words stars) (dirs * stars) =
+          first-of (clashAt words stars) (dirs * stars)
           (record {
-            within = omega arith;
-            before = λ q l. ⊎-elim
+            most = omega arith;
+            none = λ q l. ⊎-elim
                 (λ (a : i * stars ≤ q).
                 let s : q ≡ i * stars + (q - i * stars) = omega arith in
-                ap (clashAt words stars) s ∙ at-row words stars i (q - i * stars) (omega arith) ∙ w .before (q - i * stars) (omega arith))
+                ap (clashAt words stars) s ∙ at-row words stars i (q - i * stars) (omega arith) ∙ w .none (q - i * stars) (omega arith))
                 (λ (a : q < i * stars). h q a)
                 (le-or-lt (i * stars) q);
-            here = λ _. at-row words stars i k lk ∙ ap (clash words stars (i * stars)) f ∙ w .here (omega arith);
+            taken = λ _. at-row words stars i k lk ∙ ap (clash words stars (i * stars)) f ∙ w .taken (omega arith);
           }) in
       rw (eq-eqb (length words) (dirs * stars) e, ← p, lt-ltb (i * stars + k) (dirs * stars) le)
 
   pub all-good : length words ≡ dirs * stars → ((q : ℕ) → q < dirs * stars → clashAt words stars q ≡ false) → Good ≡ lentOf words dirs stars
   unfolding lentOf
   all-good e h =
-      let p : dirs * stars ≡ firstOf (dirs * stars) (clashAt words stars) =
-          first-of (clashAt words stars) (dirs * stars) (dirs * stars) (record { within = omega arith; before = h; here = λ l. absurd (omega arith) }) in
+      let p : dirs * stars ≡ first (clashAt words stars) (dirs * stars) =
+          first-of (clashAt words stars) (dirs * stars) (record { most = omega arith; none = h; taken = λ l. absurd (omega arith) }) in
       rw (eq-eqb (length words) (dirs * stars) e, ← p, le-ltb (dirs * stars) (dirs * stars) (omega arith))
 
   -- what a good ranking is: it has the length, and no word clashes
@@ -105,20 +105,20 @@ module _ (words : List ℕ) (dirs stars : ℕ) where
   unfolding lentOf
   good-length e = by (eqb (length words) (dirs * stars)) refl e
     where
-      by : (b : Bool) → eqb (length words) (dirs * stars) ≡ b → cond b (judged (dirs * stars) (firstOf (dirs * stars) (clashAt words stars))) (Bad 0) ≡ Good → length words ≡ dirs * stars
+      by : (b : Bool) → eqb (length words) (dirs * stars) ≡ b → cond b (judged (dirs * stars) (first (clashAt words stars) (dirs * stars))) (Bad 0) ≡ Good → length words ≡ dirs * stars
       by true q e = eqb-true (length words) (dirs * stars) q
       by false q e = let z : _≡_ {A = ℕ} 0 1 = cc in absurd (omega arith)
 
   good-free : lentOf words dirs stars ≡ Good → (q : ℕ) → q < dirs * stars → clashAt words stars q ≡ false
   unfolding lentOf
-  good-free e = by (ltb (firstOf (dirs * stars) (clashAt words stars)) (dirs * stars)) refl (rw (eq-eqb (length words) (dirs * stars) (good-length e)) at e)
+  good-free e = by (ltb (first (clashAt words stars) (dirs * stars)) (dirs * stars)) refl (rw (eq-eqb (length words) (dirs * stars) (good-length e)) at e)
     where
       p : ℕ
-      p = firstOf (dirs * stars) (clashAt words stars)
+      p = first (clashAt words stars) (dirs * stars)
 
       by : (b : Bool) → ltb p (dirs * stars) ≡ b → cond b (Bad p) Good ≡ Good → (q : ℕ) → q < dirs * stars → clashAt words stars q ≡ false
       by true b e q l = let z : _≡_ {A = ℕ} 0 1 = cc in absurd (omega arith)
-      by false b e q l = first-is (clashAt words stars) (dirs * stars) .before q (omega (arith, ltb-false p (dirs * stars) b))
+      by false b e q l = first-is (clashAt words stars) (dirs * stars) .none q (omega (arith, ltb-false p (dirs * stars) b))
 
   row-into : ((q : ℕ) → q < dirs * stars → clashAt words stars q ≡ false) → (i : ℕ) → i < dirs → Into stars stars (word words (i * stars))
   row-into h i li =

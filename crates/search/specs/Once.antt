@@ -2,11 +2,12 @@
 -- its row; the place is the first such entry's, counted over the whole ranking. Assumes nothing.
 use mathlib.Core.Bool.{Bool, true, false, cond, _||_}
 use mathlib.Core.List.{List}
-use Prim.Native.Nat.{ℕ, zero, suc, _+_, _*_, _/_, _%_}
+use Prim.Native.Nat.{ℕ, _+_, _*_, _/_, _%_}
 use lib.ListN.{getD, length}
 use lib.Dec.{leb, ltb, eqb}
 use Rattle.assignment.specs.Order.{Ranking}
 use Rattle.assignment.specs.Tests.{some}
+use Rattle.counting.specs.First.{first}
 use Rattle.search.specs.declared.Judgement.{Judgement}
 use Rattle.search.specs.declared.Judgement.the-variants.{Good, Bad}
 
@@ -22,15 +23,6 @@ word words base k = getD words (base + k) 0
 unfoldable pub clash : List ℕ → ℕ → ℕ → ℕ → Bool
 clash words stars base k = leb stars (word words base k) || some k (λ l. eqb (word words base l) (word words base k))
 
--- the first number from k on that has f, of n numbers; the number after them where none has it
-unfoldable pub seek : (ℕ → Bool) → ℕ → ℕ → ℕ
-seek f k zero = k
-seek f k (suc n) = cond (f k) k (seek f (suc k) n)
-
--- the first number below n that has f, or n
-unfoldable pub firstOf : ℕ → (ℕ → Bool) → ℕ
-firstOf n f = seek f 0 n
-
 -- the entry q of the whole ranking stands at place q % stars of the row that starts at q / stars * stars
 abbrev pub clashAt : List ℕ → ℕ → ℕ → Bool
 clashAt words stars q = clash words stars (q / stars * stars) (q % stars)
@@ -39,4 +31,4 @@ abbrev pub judged : ℕ → ℕ → Judgement
 judged size q = cond (ltb q size) (Bad q) Good
 
 unfoldable pub lentOf : List ℕ → ℕ → ℕ → Judgement
-lentOf words dirs stars = cond (eqb (length words) (dirs * stars)) (judged (dirs * stars) (firstOf (dirs * stars) (clashAt words stars))) (Bad 0)
+lentOf words dirs stars = cond (eqb (length words) (dirs * stars)) (judged (dirs * stars) (first (clashAt words stars) (dirs * stars))) (Bad 0)

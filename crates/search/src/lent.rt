@@ -4,12 +4,13 @@ use crate::index;
 ghost use mathlib.Core.Path.{_≡_};
 ghost use Prim.Native.Nat.{_+_, _≤_};
 ghost use lib.ListN.{length};
-ghost use Rattle.search.specs.Once.{clash, firstOf, lentOf};
+ghost use Rattle.counting.specs.First.{first};
+ghost use Rattle.search.specs.Once.{clash, lentOf};
 
 // How many words of the row at `base` stand before the first that is out of range or repeats an earlier one. A table marks the stars seen.
 fn fresh_words(ranking: &[u16], base: usize, stars: usize) -> usize
     requires { ⌜ (stars ≤ 512) × (base + stars ≤ length (now ranking)) ⌝ }
-    ensures { λ r. ⌜ r ≡ firstOf stars (clash (now (ranking .entry)) stars base) ⌝ }
+    ensures { λ r. ⌜ r ≡ first (clash (now (ranking .entry)) stars base) stars ⌝ }
 {
     let mut seen = [0u8; 512];
     let mut k = 0;

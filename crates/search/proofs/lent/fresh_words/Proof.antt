@@ -8,7 +8,7 @@ use Prim.Native.Nat.{ℕ, _≤_, _<_, _-_}
 use native.Mathlib.Omega.{arith}
 use lib.ListN.{getD}
 use Rattle.search.specs.Once.{clash}
-use Rattle.search.proofs.First.{first-of}
+use Rattle.counting.specs.First.{first-of}
 use Rattle.search.proofs.Once.{clash-range, clash-repeat, clash-free}
 use Rattle.search.proofs.Seen as table
 use Rattle.search.proofs.lent.fresh_words.Statement.{statement}
@@ -45,7 +45,7 @@ index-requires c κs = search needs
 returns : tie.Need-returns Inv-loop μ-loop
 returns c =
     let l = c .before .before .before .before .loop in
-    first-of _ _ _ (record { within = omega arith; before = l .inv .1 .0; here = λ _. clash-range _ _ _ _ (omega arith) })
+    first-of _ _ (record { most = omega arith; none = l .inv .1 .0; taken = λ _. clash-range _ _ _ _ (omega arith) })
 
 array-read-if2 : tie.Need-array-read-if2 Inv-loop μ-loop
 array-read-if2 c = omega arith
@@ -54,7 +54,7 @@ returns-2 : tie.Need-returns-2 Inv-loop μ-loop
 returns-2 c =
     let l = c .before .before .before .before .before .loop in
     let w = table.hit _ _ _ _ (l .inv .1 .1) (moved (l .seen) (c .before .before .index .ensures) (c .if2 .taken)) in
-    first-of _ _ _ (record { within = omega arith; before = l .inv .1 .0; here = λ _. clash-repeat _ _ _ _ (w .0) (w .1) (w .2) })
+    first-of _ _ (record { most = omega arith; none = l .inv .1 .0; taken = λ _. clash-repeat _ _ _ _ (w .0) (w .1) (w .2) })
 
 array-write-seen : tie.Need-array-write-seen Inv-loop μ-loop
 array-write-seen c = omega arith
@@ -77,7 +77,7 @@ loop-again c =
     )
 
 returns-3 : tie.Need-returns-3 Inv-loop μ-loop
-returns-3 c = first-of _ _ _ (record { within = omega arith; before = λ k l. c .before .loop .inv .1 .0 k (omega arith); here = λ l. absurd (omega arith) })
+returns-3 c = first-of _ _ (record { most = omega arith; none = λ k l. c .before .loop .inv .1 .0 k (omega arith); taken = λ l. absurd (omega arith) })
 
 pub fresh-words-spec : {M : Type 1} → statement M
 fresh-words-spec =
