@@ -25,8 +25,9 @@ module _ (words : List ℕ) (stars directions : ℕ) where
   -- what it finds has a star, from the place on
   pub from-taken : (from : ℕ) → assignedFrom words stars directions from < directions → (from ≤ assignedFrom words stars directions from) × (at words (assignedFrom words stars directions from) < stars)
   from-taken from h =
+      let r = assignedFrom words stars directions from in
       let t = is-first from .taken h in
-      (leb-true _ _ (and-left _ _ t), ltb-true _ _ (and-right _ _ t))
+      (leb-true from r (and-left (leb from r) (ltb (at words r) stars) t), ltb-true (at words r) stars (and-right (leb from r) (ltb (at words r) stars) t))
 
   -- where nothing from a place on has a star, the assigned ones stand before it
   none-after : (from n : ℕ) → from ≤ n → ((i : ℕ) → i < n → taken from i ≡ false) → assigned stars words n ≡ assigned stars words from
