@@ -2,3 +2,9 @@
 pub mod List
 pub mod ListSteps
 pub mod ListLaws
+pub mod Settings
+pub mod Position
+pub mod Direction
+pub mod PositionBounds
+pub mod SettingsLaws
+pub mod DirectionLaws

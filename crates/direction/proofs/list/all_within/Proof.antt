@@ -1,4 +1,4 @@
--- `direction::all_within` meets its contract. The loop's invariant: what the whole list comes to is what the numbers from k on come to. Assumes nothing.
+-- `direction::list::all_within` meets its contract. The loop's invariant: what the whole list comes to is what the numbers from k on come to. Assumes nothing.
 use borrow.Author.Needs.{needs}
 use borrow.Author.Tests.{not-true, not-false}
 use mathlib.Core.Bool.{true, false}
@@ -12,8 +12,8 @@ use mir.Syntax.{w32, w64}
 use Rattle.numbers.specs.Num.{Num, held, cast, fits, back}
 use Rattle.direction.specs.List.{largest, allWithin}
 use Rattle.direction.specs.ListSteps.{all-end, all-stop, all-on}
-use Rattle.direction.proofs.all_within.Statement.{statement}
-use Rattle.direction.proofs.all_within.Tie as tie
+use Rattle.direction.proofs.list.all_within.Statement.{statement}
+use Rattle.direction.proofs.list.all_within.Tie as tie
 
 abbrev Inv-loop : tie.InvT-loop
 Inv-loop v k₀ k = (k ≤ length v) × (allWithin largest v ≡ allWithin largest (drop k v))

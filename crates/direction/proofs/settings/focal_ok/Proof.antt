@@ -1,0 +1,17 @@
+-- `direction::settings::focal_ok` meets its contract. Assumes nothing.
+use mathlib.Core.Path.{ap, _∙_}
+use lib.IntN.{ℤ, pos}
+use Rattle.numbers.specs.Num.{param, back}
+use Rattle.direction.specs.Settings.{focalOk}
+use borrow.Author.Needs.{needs}
+use Rattle.direction.proofs.settings.focal_ok.Statement.{statement}
+use Rattle.direction.proofs.settings.focal_ok.Tie as tie
+
+between-requires : tie.Need-between-requires
+between-requires c κs = search needs
+
+returns : tie.Need-returns
+returns c = c .between .ensures ∙ ap (λ (z : ℤ). focalOk z) (back (param (c .before .fits .focal)))
+
+pub focal-ok-spec : {M : Type 1} → statement M
+focal-ok-spec = tie.close (tie.spec between-requires returns)

@@ -1,0 +1,92 @@
+-- What the direction of a position is: refusal 5 exactly where the settings or the position are out of range, else the direction, whose numbers
+-- are within ±10^9. Assumes nothing.
+use mathlib.Core.Bool.{Bool, true, false, not, _&&_, and-false}
+use mathlib.Core.Path.{_≡_, refl, sym, ap, subst, _∙_}
+use mathlib.Core.List.{List, [], _∷_}
+use Prim.Native.Nat.{ℕ}
+use native.Mathlib.Omega.{arith}
+use lib.IntN.{ℤ, _-ℤ_}
+use Rattle.refusal.specs.declared.Refusal.{Refusal}
+use Rattle.refusal.specs.declared.Outcome.{Outcome}
+use Rattle.refusal.specs.declared.Outcome.the-variants.{Accepted}
+use Rattle.refusal.specs.Numbers.{settings}
+use Rattle.refusal.specs.Table.{refusalOf, lowest, answered}
+use Rattle.refusal.specs.Laws.{lowest-here, lowest-next, silent-accepted, Silent}
+use Rattle.vectors.specs.declared.Vec3.{Vec3}
+use Rattle.vectors.specs.Vectors.{Within3}
+use Rattle.direction.specs.declared.Direction.{Direction}
+use Rattle.direction.specs.declared.Direction.the-variants.{Refused, Found}
+use Rattle.direction.specs.Settings.{settingsOk, positionOk}
+use Rattle.direction.specs.SettingsLaws.{Settings, Position, ok-settings, settings-ok, ok-position, position-ok}
+use Rattle.direction.specs.Position.{towardOf}
+use Rattle.direction.specs.PositionBounds.{toward-within}
+use Rattle.direction.specs.Direction.{refusalsOf, directionOf, outOfRange}
+
+module _ (cx cy f x y : ℤ) where
+  -- ---- one test at a time, as the code meets them
+
+  given : {o : Outcome} → lowest (refusalsOf cx cy f x y) ≡ o → directionOf cx cy f x y ≡ answered Refused (Found (towardOf (x -ℤ cx) (y -ℤ cy) f)) o
+  unfolding directionOf
+  given e = ap (λ (o : Outcome). answered Refused (Found (towardOf (x -ℤ cx) (y -ℤ cy) f)) o) e
+
+  out : settingsOk cx cy f && positionOk x y ≡ false → directionOf cx cy f x y ≡ outOfRange
+  unfolding refusalsOf
+  out e = given (lowest-here _ _ (ap not e))
+
+  pub settings-out : settingsOk cx cy f ≡ false → directionOf cx cy f x y ≡ outOfRange
+  settings-out e = out (rw e)
+
+  pub position-out : positionOk x y ≡ false → directionOf cx cy f x y ≡ outOfRange
+  position-out e = out (rw (e, and-false))
+
+  pub in-range : settingsOk cx cy f ≡ true → positionOk x y ≡ true → directionOf cx cy f x y ≡ Found (towardOf (x -ℤ cx) (y -ℤ cy) f)
+  unfolding refusalsOf Silent
+  in-range e g = given (silent-accepted _ (rw (e, g), tt))
+
+  -- ---- in plain terms
+
+  pub found : Settings cx cy f → Position x y → directionOf cx cy f x y ≡ Found (towardOf (x -ℤ cx) (y -ℤ cy) f)
+  found s p = in-range (settings-ok cx cy f s) (position-ok x y p)
+
+  -- the two ways that it can go
+  data Way : Type 0 where
+    wrong : (Settings cx cy f → Position x y → ⊥) → directionOf cx cy f x y ≡ outOfRange → Way
+    right : Settings cx cy f → Position x y → directionOf cx cy f x y ≡ Found (towardOf (x -ℤ cx) (y -ℤ cy) f) → Way
+
+  zero-one : _≡_ {A = ℕ} 0 1 → ⊥
+  zero-one z = omega arith
+
+  false-true : {A : Type 0} {t : Bool} → t ≡ true → t ≡ false → A
+  false-true e g = absurd (zero-one cc)
+
+  way : Way
+  way = go (settingsOk cx cy f) (positionOk x y) refl refl
+    where
+      go : (a b : Bool) → settingsOk cx cy f ≡ a → positionOk x y ≡ b → Way
+      go false b e g = wrong (λ s p. false-true (settings-ok cx cy f s) e) (settings-out e)
+      go true false e g = wrong (λ s p. false-true (position-ok x y p) g) (position-out g)
+      go true true e g = right (ok-settings cx cy f e) (ok-position x y g) (in-range e g)
+
+  pub refused : (Settings cx cy f → Position x y → ⊥) → directionOf cx cy f x y ≡ outOfRange
+  refused n = go way
+    where
+      go : Way → directionOf cx cy f x y ≡ outOfRange
+      go (wrong _ e) = e
+      go (right s p e) = absurd (n s p)
+
+  pub refused-only : (r : Refusal) → directionOf cx cy f x y ≡ Refused r → (Settings cx cy f → Position x y → ⊥) × (r ≡ record { number = settings; place = 0 })
+  refused-only r h = go way
+    where
+      go : Way → (Settings cx cy f → Position x y → ⊥) × (r ≡ record { number = settings; place = 0 })
+      go (wrong n e) = (n, cc)
+      go (right s p e) = absurd (zero-one cc)
+
+  pub found-only : (v : Vec3) → directionOf cx cy f x y ≡ Found v → Settings cx cy f × Position x y × (v ≡ towardOf (x -ℤ cx) (y -ℤ cy) f)
+  found-only v h = go way
+    where
+      go : Way → Settings cx cy f × Position x y × (v ≡ towardOf (x -ℤ cx) (y -ℤ cy) f)
+      go (wrong n e) = absurd (zero-one cc)
+      go (right s p e) = (s, p, cc)
+
+  pub found-within : (v : Vec3) → directionOf cx cy f x y ≡ Found v → Within3 1000000000 v
+  found-within v h = subst (Within3 1000000000) (sym (found-only v h .2)) (toward-within (x -ℤ cx) (y -ℤ cy) f)

@@ -1,0 +1,20 @@
+-- The ranges of the settings: "centre cx, cy, each 0 to 261,888, and focal length F, 16,384 to 4,194,304", and of "a position handed in whose x or
+-- y is not 0 to 261,888". Assumes nothing.
+use mathlib.Core.Bool.{Bool, _&&_}
+use lib.IntN.{ℤ, pos}
+use lib.Signed.{leZ}
+
+unfoldable pub between : ℤ → ℤ → ℤ → Bool
+between low high z = leZ low z && leZ z high
+
+abbrev pub placeOk : ℤ → Bool
+placeOk z = between (pos 0) (pos 261888) z
+
+abbrev pub focalOk : ℤ → Bool
+focalOk f = between (pos 16384) (pos 4194304) f
+
+unfoldable pub settingsOk : ℤ → ℤ → ℤ → Bool
+settingsOk cx cy f = placeOk cx && placeOk cy && focalOk f
+
+unfoldable pub positionOk : ℤ → ℤ → Bool
+positionOk x y = placeOk x && placeOk y

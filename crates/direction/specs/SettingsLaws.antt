@@ -1,0 +1,75 @@
+-- What the ranges of the settings and of a position say in plain terms, and that the tests say exactly that. Assumes nothing.
+use mathlib.Core.Bool.{Bool, true, false, _&&_, and-eq-true-iff}
+use mathlib.Core.Path.{_≡_, refl, sym, ap, subst, _∙_}
+use Prim.Native.Nat.{ℕ, _≤_, _<_}
+use native.Mathlib.Omega.{arith}
+use borrow.Author.Tests.{leb-true, le-leb}
+use lib.Dec.{leb}
+use lib.IntN.{ℤ, pos, negsuc, natAbs}
+use lib.Signed.{leZ, _<ℤ_}
+use Rattle.numbers.specs.Abs.{pos-positive}
+use Rattle.numbers.specs.Within.{Within}
+use Rattle.direction.specs.Settings.{between, placeOk, focalOk, settingsOk, positionOk}
+
+-- a whole number from low to high
+pub record Between (low high : ℕ) (z : ℤ) : Type 0 where
+  pub at : ℕ
+  pub is : z ≡ pos at
+  pub above : low ≤ at
+  pub below : at ≤ high
+
+pub record Settings (cx cy f : ℤ) : Type 0 where
+  pub across : Between 0 261888 cx
+  pub down : Between 0 261888 cy
+  pub focal : Between 16384 4194304 f
+
+pub record Position (x y : ℤ) : Type 0 where
+  pub across : Between 0 261888 x
+  pub down : Between 0 261888 y
+
+both : (a b : Bool) → a && b ≡ true → (a ≡ true) × (b ≡ true)
+both a b = and-eq-true-iff a b .0
+
+false-true : _≡_ {A = Bool} false true → ⊥
+false-true e = let z : _≡_ {A = ℕ} 0 1 = cc in omega arith
+
+module _ (low high : ℕ) where
+  pub ok-between : (z : ℤ) → between (pos low) (pos high) z ≡ true → Between low high z
+  unfolding between
+  ok-between (pos n) e =
+      let p = both (leb low n) (leb n high) e in
+      record { at = n; is = refl; above = leb-true low n (p .0); below = leb-true n high (p .1) }
+  ok-between (negsuc n) e = absurd (false-true e)
+
+  pub between-ok : (z : ℤ) → Between low high z → between (pos low) (pos high) z ≡ true
+  unfolding between
+  between-ok z h = rw (h .is, le-leb low (h .at) (h .above)) (le-leb (h .at) high (h .below))
+
+  pub between-within : {z : ℤ} → Between low high z → Within high z
+  between-within {z} h = subst (Within high) (sym (h .is)) (record { within = h .below })
+
+  pub between-positive : {z : ℤ} → 0 < low → Between low high z → pos 0 <ℤ z
+  between-positive {z} l h = subst (λ (y : ℤ). pos 0 <ℤ y) (sym (h .is)) (pos-positive (omega (arith, h .above)))
+
+module _ (cx cy f : ℤ) where
+  pub ok-settings : settingsOk cx cy f ≡ true → Settings cx cy f
+  unfolding settingsOk
+  ok-settings e =
+      let p = both (placeOk cx && placeOk cy) (focalOk f) e in
+      let q = both (placeOk cx) (placeOk cy) (p .0) in
+      record { across = ok-between 0 261888 cx (q .0); down = ok-between 0 261888 cy (q .1); focal = ok-between 16384 4194304 f (p .1) }
+
+  pub settings-ok : Settings cx cy f → settingsOk cx cy f ≡ true
+  unfolding settingsOk
+  settings-ok h = rw (between-ok 0 261888 cx (h .across), between-ok 0 261888 cy (h .down)) (between-ok 16384 4194304 f (h .focal))
+
+module _ (x y : ℤ) where
+  pub ok-position : positionOk x y ≡ true → Position x y
+  unfolding positionOk
+  ok-position e =
+      let p = both (placeOk x) (placeOk y) e in
+      record { across = ok-between 0 261888 x (p .0); down = ok-between 0 261888 y (p .1) }
+
+  pub position-ok : Position x y → positionOk x y ≡ true
+  unfolding positionOk
+  position-ok h = rw (between-ok 0 261888 x (h .across)) (between-ok 0 261888 y (h .down))
