@@ -5,7 +5,7 @@ use mathlib.Core.Path.{_≡_, refl, sym, ap, subst, _∙_}
 use mathlib.Core.List.{List}
 use Prim.Native.Nat.{ℕ, suc, zero, _≤_, _<_}
 use native.Mathlib.Decide.{decLt}
-use native.Mathlib.Nat.{lt-trans, not-suc-le-zero, le-refl}
+use native.Mathlib.Nat.{lt-trans, not-suc-le-zero}
 use native.Mathlib.Omega.{arith}
 use borrow.Author.Tests.{not-true, not-false}
 use lib.ListN.{length}
@@ -14,14 +14,13 @@ use Rattle.refusal.specs.declared.Refusal.{Refusal}
 use Rattle.refusal.specs.declared.Outcome.the-variants.{Accepted}
 use Rattle.refusal.specs.Numbers.{catalogue, recordRule}
 use Rattle.refusal.specs.Table.{refusalOf, lowest, answered}
-use Rattle.catalogue.specs.declared.Checked.{Checked}
 use Rattle.catalogue.specs.declared.Checked.the-variants.{Refused, Records}
 use Rattle.catalogue.specs.Format.{recordsIn, identityOf}
 use Rattle.catalogue.specs.Rule.{recordOk}
-use Rattle.catalogue.specs.First.{First, first, first-is, first-of}
+use Rattle.catalogue.specs.First.{First, first-is, first-of}
 use Rattle.catalogue.specs.Check.{lengthOk, brokenOf, refusalsOf, checkedOf}
 use Rattle.catalogue.specs.CheckSteps.{checked, wrong-length, one-broken, none-broken}
-use Rattle.catalogue.specs.Valid.{LengthRule, StarRule, RecordRule, Valid, FirstBroken}
+use Rattle.catalogue.specs.Valid.{LengthRule, RecordRule, Valid, FirstBroken}
 use Rattle.catalogue.specs.RuleLaws.{ok-length, length-ok, ok-record, record-ok}
 
 zero-one : _≡_ {A = ℕ} 0 1 → ⊥

@@ -1,6 +1,6 @@
 -- What the check of a catalogue gives, one row at a time, as the code meets them. Assumes nothing.
-use mathlib.Core.Bool.{Bool, true, false, not}
-use mathlib.Core.Path.{_≡_, refl, ap, _∙_}
+use mathlib.Core.Bool.{true, false, not}
+use mathlib.Core.Path.{_≡_, ap, _∙_}
 use mathlib.Core.List.{List, [], _∷_}
 use Prim.Native.Nat.{ℕ, _≤_, _<_}
 use borrow.Author.Tests.{lt-ltb, le-ltb}
@@ -8,9 +8,8 @@ use lib.ListN.{length}
 use Rattle.refusal.specs.declared.Outcome.{Outcome}
 use Rattle.refusal.specs.declared.Outcome.the-variants.{Accepted}
 use Rattle.refusal.specs.Numbers.{catalogue, recordRule}
-use Rattle.refusal.specs.Table.{refusalOf, row, rowAt, lowest, answered}
+use Rattle.refusal.specs.Table.{refusalOf, rowAt, lowest, answered}
 use Rattle.refusal.specs.Laws.{lowest-here, lowest-next, silent-accepted, Silent}
-use Rattle.catalogue.specs.declared.Checked.{Checked}
 use Rattle.catalogue.specs.declared.Checked.the-variants.{Refused, Records}
 use Rattle.catalogue.specs.Format.{recordsIn}
 use Rattle.catalogue.specs.Check.{lengthOk, brokenOf, recordBroken, refusalsOf, checkedOf}

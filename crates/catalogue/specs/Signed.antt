@@ -1,12 +1,11 @@
 -- A word read as a signed number, by the half of the words that it is in. Assumes nothing.
 use mathlib.Core.Path.{_≡_}
-use Prim.Native.Nat.{ℕ, _^_, _≤_, _<_}
+use Prim.Native.Nat.{ℕ, _≤_, _<_}
 use native.Mathlib.Omega.{arith}
 use borrow.Author.Tests.{lt-ltb, le-ltb}
-use lib.IntN.{ℤ, pos, negsuc, _-ℤ_}
-use lib.Signed.{mag}
+use lib.IntN.{pos, _-ℤ_}
 use mir.Syntax.{w32}
-use mir.Val.{SFits, hbits}
+use mir.Val.{SFits}
 use Rattle.catalogue.specs.Format.{signedOf}
 
 pub signed-low : (w : ℕ) → w < 2147483648 → signedOf w ≡ pos w

@@ -1,16 +1,15 @@
 -- Where each number of a star stands, and how the list grows in place. Assumes nothing.
 use mathlib.Core.Path.{_≡_, refl, sym, ap, _∙_}
-use mathlib.Core.List.{List, [], _∷_, _++_, append-assoc}
-use Prim.Native.Nat.{ℕ, zero, suc, _+_, _*_, _-_, _/_, _%_, _≤_, _<_, min}
+use mathlib.Core.List.{List, _++_}
+use Prim.Native.Nat.{ℕ, zero, suc, _+_, _*_, _-_, _/_, _%_, _<_}
 use native.Mathlib.Decide.{decLt}
-use native.Mathlib.Numerals.{add-one}
 use native.Mathlib.Nat.{not-suc-le-zero}
 use native.Mathlib.Omega.{arith}
-use lib.IntN.{ℤ, pos}
-use lib.ListN.{length, getD, take, set, replicate, length-append, List·getD-append}
-use lib.Seq.{getD-append-add, take-suc, set-at, length-take-le, append-snoc}
+use lib.IntN.{pos}
+use lib.ListN.{length, getD, length-append, List·getD-append}
+use lib.Seq.{getD-append-add}
 use Rattle.catalogue.specs.Format.{componentOf}
-use Rattle.catalogue.specs.Stars.{starsIn, starOf, starsTo, starsOf, padded}
+use Rattle.catalogue.specs.Stars.{starsIn, starOf, starsTo, starsOf}
 
 pub to-length : (bytes : List ℕ) (n : ℕ) → length (starsTo bytes n) ≡ 3 * n
 unfolding starsTo

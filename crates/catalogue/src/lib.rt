@@ -4,8 +4,6 @@ mod rule;
 
 use refusal::Refusal;
 ghost use mathlib.Core.Path.{_≡_};
-ghost use Prim.Native.Nat.{_≤_};
-ghost use lib.ListN.{length};
 ghost use Rattle.catalogue.specs.Format.{recordsIn};
 ghost use Rattle.catalogue.specs.Check.{lengthOk, checkedOf};
 ghost use Rattle.catalogue.specs.Stars.{starsIn, starsOf, padded, identityFor};

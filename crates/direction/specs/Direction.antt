@@ -1,10 +1,9 @@
 -- The direction of a position, or refusal 5. Assumes nothing.
-use mathlib.Core.Bool.{Bool, not, _&&_}
+use mathlib.Core.Bool.{not, _&&_}
 use mathlib.Core.List.{List, [], _∷_}
 use lib.IntN.{ℤ, _-ℤ_}
 use Rattle.refusal.specs.Numbers.{settings}
 use Rattle.refusal.specs.Table.{Row, row, lowest, answered}
-use Rattle.vectors.specs.declared.Vec3.{Vec3}
 use Rattle.direction.specs.declared.Direction.{Direction}
 use Rattle.direction.specs.declared.Direction.the-variants.{Refused, Found}
 use Rattle.direction.specs.Settings.{settingsOk, positionOk}

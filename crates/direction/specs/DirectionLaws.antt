@@ -1,20 +1,17 @@
 -- What the direction of a position is: refusal 5 exactly where the settings or the position are out of range, else the direction, whose numbers
 -- are within ±10^9. Assumes nothing.
 use mathlib.Core.Bool.{Bool, true, false, not, _&&_, and-false}
-use mathlib.Core.Path.{_≡_, refl, sym, ap, subst, _∙_}
-use mathlib.Core.List.{List, [], _∷_}
+use mathlib.Core.Path.{_≡_, refl, sym, ap, subst}
 use Prim.Native.Nat.{ℕ}
 use native.Mathlib.Omega.{arith}
 use lib.IntN.{ℤ, _-ℤ_}
 use Rattle.refusal.specs.declared.Refusal.{Refusal}
 use Rattle.refusal.specs.declared.Outcome.{Outcome}
-use Rattle.refusal.specs.declared.Outcome.the-variants.{Accepted}
 use Rattle.refusal.specs.Numbers.{settings}
-use Rattle.refusal.specs.Table.{refusalOf, lowest, answered}
-use Rattle.refusal.specs.Laws.{lowest-here, lowest-next, silent-accepted, Silent}
+use Rattle.refusal.specs.Table.{lowest, answered}
+use Rattle.refusal.specs.Laws.{lowest-here, silent-accepted, Silent}
 use Rattle.vectors.specs.declared.Vec3.{Vec3}
 use Rattle.vectors.specs.Vectors.{Within3}
-use Rattle.direction.specs.declared.Direction.{Direction}
 use Rattle.direction.specs.declared.Direction.the-variants.{Refused, Found}
 use Rattle.direction.specs.Settings.{settingsOk, positionOk}
 use Rattle.direction.specs.SettingsLaws.{Settings, Position, ok-settings, settings-ok, ok-position, position-ok}

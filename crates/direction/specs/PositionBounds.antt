@@ -1,15 +1,12 @@
 -- How large N and a direction are: N is at least 256 times each offset, so that a direction stays within ±10^9. Assumes nothing.
-use mathlib.Core.Path.{_≡_}
-use Prim.Native.Nat.{ℕ, _+_, _*_, _/_, _≤_, _<_}
+use Prim.Native.Nat.{ℕ, _+_, _*_, _≤_}
 use native.Mathlib.Nat.{mul-le-mul, le-trans, div-le-of-le-mul}
 use native.Mathlib.Decide.{decLe}
 use native.Mathlib.Omega.{arith}
-use lib.IntN.{ℤ, pos, natAbs, _*ℤ_}
-use lib.Signed.{quotZ}
+use lib.IntN.{ℤ, natAbs}
 use Rattle.numbers.specs.Abs.{abs-mul, abs-quot}
 use Rattle.numbers.specs.Within.{Within}
-use Rattle.numbers.specs.Root.{Root, root, root-is, square-root}
-use Rattle.vectors.specs.declared.Vec3.{Vec3}
+use Rattle.numbers.specs.Root.{root, root-is, square-root}
 use Rattle.vectors.specs.Vectors.{Within3}
 use Rattle.direction.specs.Position.{square, normOf, scaledOf, towardOf}
 

@@ -1,12 +1,12 @@
 -- What the ranges of the settings and of a position say in plain terms, and that the tests say exactly that. Assumes nothing.
 use mathlib.Core.Bool.{Bool, true, false, _&&_, and-eq-true-iff}
-use mathlib.Core.Path.{_≡_, refl, sym, ap, subst, _∙_}
+use mathlib.Core.Path.{_≡_, refl, sym, subst}
 use Prim.Native.Nat.{ℕ, _≤_, _<_}
 use native.Mathlib.Omega.{arith}
 use borrow.Author.Tests.{leb-true, le-leb}
 use lib.Dec.{leb}
-use lib.IntN.{ℤ, pos, negsuc, natAbs}
-use lib.Signed.{leZ, _<ℤ_}
+use lib.IntN.{ℤ, pos, negsuc}
+use lib.Signed.{_<ℤ_}
 use Rattle.numbers.specs.Abs.{pos-positive}
 use Rattle.numbers.specs.Within.{Within}
 use Rattle.direction.specs.Settings.{between, placeOk, focalOk, settingsOk, positionOk}

@@ -1,5 +1,4 @@
 -- `catalogue::identity` meets its contract. Assumes nothing.
-use mathlib.Core.Path.{_≡_, sym, _∙_}
 use borrow.Author.Tests.{lt-ltb, le-ltb}
 use native.Mathlib.Omega.{arith}
 use Rattle.catalogue.specs.Format.{recordsIn}

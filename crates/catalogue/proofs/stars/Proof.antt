@@ -1,15 +1,12 @@
 -- `catalogue::stars` meets its contract. The loop's invariant: the array holds the first k numbers of the list, and zeros behind them. Assumes nothing.
 use borrow.Author.Needs.{needs}
-use mathlib.Core.Path.{_≡_, refl, sym, ap, _∙_}
-use mathlib.Core.List.{List}
-use Prim.Native.Nat.{ℕ, _+_, _*_, _-_, _/_, _%_, _≤_, _<_}
+use mathlib.Core.Path.{_≡_, sym, _∙_}
+use Prim.Native.Nat.{_-_, _≤_}
 use native.Mathlib.Omega.{arith}
-use lib.IntN.{ℤ, pos}
-use lib.ListN.{length, getD, set}
+use lib.ListN.{set}
 use mir.Syntax.{w32}
 use Rattle.numbers.specs.Num.{kept}
-use Rattle.catalogue.specs.Format.{componentOf}
-use Rattle.catalogue.specs.Stars.{starsIn, starsOf, padded}
+use Rattle.catalogue.specs.Stars.{starsOf}
 use Rattle.catalogue.specs.StarsLaws.{stars-length, number-at}
 use Rattle.catalogue.specs.Filled.{filled, filled-none, filled-next, filled-all}
 use Rattle.catalogue.proofs.stars.Statement.{statement}

@@ -1,10 +1,8 @@
 -- `direction::direction_of` meets its contract: it tests the settings, then the position. Assumes nothing.
-use mathlib.Core.Bool.{Bool, true, false}
-use mathlib.Core.Path.{_≡_, sym, ap, subst, _∙_}
+use mathlib.Core.Bool.{true}
+use mathlib.Core.Path.{_≡_, sym, ap, _∙_}
 use borrow.Author.Tests.{not-true, not-false}
 use lib.Dec.{lit<}
-use lib.IntN.{ℤ, pos, _-ℤ_}
-use lib.Signed.{_<ℤ_}
 use mir.Syntax.{w64}
 use Rattle.numbers.specs.Num.{Num, param, arg, sub, fits, back, near, above}
 use Rattle.direction.specs.declared.Direction.the-variants.{Found}

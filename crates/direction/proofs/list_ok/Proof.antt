@@ -1,9 +1,6 @@
 -- `direction::list_ok` meets its contract: each test that it makes is one of the rule's. Assumes nothing.
 use borrow.Author.Needs.{needs}
 use borrow.Author.Tests.{eq-eqb, ne-eqb, le-leb, lt-leb}
-use mathlib.Core.Path.{_≡_, _∙_, sym}
-use Prim.Native.Nat.{ℕ, _%_}
-use lib.ListN.{length}
 use Rattle.direction.specs.List.{listOk}
 use Rattle.direction.proofs.list_ok.Statement.{statement}
 use Rattle.direction.proofs.list_ok.Tie as tie

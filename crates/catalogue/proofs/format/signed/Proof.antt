@@ -1,15 +1,12 @@
 -- `catalogue::format::signed` meets its contract: a word of the lower half is its own number, one of the upper half is 2^32 above it. Assumes nothing.
-use mathlib.Core.Path.{_≡_, refl, sym, ap, subst, _∙_}
-use Prim.Native.Nat.{ℕ, _≤_, _<_}
+use mathlib.Core.Path.{refl, sym, subst, _∙_}
 use native.Mathlib.Omega.{arith}
-use borrow.Author.Tests.{lt-ltb}
-use lib.IntN.{ℤ, pos, _-ℤ_}
+use lib.IntN.{pos}
 use mir.Syntax.{w32, w64}
 use mir.Val.{SFits, toZ, ofZ}
 use mir.ValLaws.{toZ-ofZ}
 use Rattle.numbers.specs.Within.{Within}
 use Rattle.numbers.specs.Num.{Num, num, lit, sub, fits, back}
-use Rattle.catalogue.specs.Format.{signedOf}
 use Rattle.catalogue.specs.Signed.{signed-low, signed-high, high-fits}
 use borrow.Author.Needs.{needs}
 use Rattle.catalogue.proofs.format.signed.Statement.{statement}

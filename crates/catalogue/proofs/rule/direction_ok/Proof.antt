@@ -1,5 +1,5 @@
 -- `catalogue::rule::direction_ok` meets its contract. Past the three tests each square is within 10^18 of 0, so that their sum fits. Assumes nothing.
-use mathlib.Core.Bool.{Bool, true, false}
+use mathlib.Core.Bool.{Bool, true}
 use mathlib.Core.Path.{_≡_, sym, ap, _∙_}
 use borrow.Author.Tests.{not-true, not-false, leb-true}
 use lib.Dec.{leb}
@@ -8,7 +8,7 @@ use mir.Syntax.{w64}
 use mir.Val.{SFits, toZ, ofZ}
 use Rattle.numbers.specs.Within.{Within}
 use Rattle.numbers.specs.Num.{Num, param, arg, lit, mul, add, sub, fits, back}
-use Rattle.catalogue.specs.Rule.{inRange, normOk, directionOk}
+use Rattle.catalogue.specs.Rule.{inRange, directionOk}
 use borrow.Author.Needs.{needs}
 use Rattle.catalogue.proofs.rule.direction_ok.Statement.{statement}
 use Rattle.catalogue.proofs.rule.direction_ok.Tie as tie

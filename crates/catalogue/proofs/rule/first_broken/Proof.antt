@@ -1,16 +1,12 @@
 -- `catalogue::rule::first_broken` meets its contract. The loop's invariant: each record before i keeps its rule. Assumes nothing.
-use borrow.Author.Needs.{needs}
 use borrow.Author.Count.{below-none, below-more}
-use borrow.Author.Tests.{not-true, not-false}
-use mathlib.Core.Bool.{Bool, true, false, not}
-use mathlib.Core.Path.{_≡_, refl, sym, ap, _∙_}
-use Prim.Native.Nat.{ℕ, _-_, _+_, _/_, _≤_, _<_}
+use mathlib.Core.Bool.{false, not}
+use mathlib.Core.Path.{_≡_, sym, ap, _∙_}
+use Prim.Native.Nat.{ℕ, _-_, _≤_, _<_}
 use native.Mathlib.Nat.{le-refl, lt-irrefl}
 use native.Mathlib.Omega.{arith}
-use lib.ListN.{length}
-use Rattle.catalogue.specs.Format.{recordsIn}
 use Rattle.catalogue.specs.Rule.{recordOk}
-use Rattle.catalogue.specs.First.{First, first-of}
+use Rattle.catalogue.specs.First.{first-of}
 use Rattle.catalogue.specs.Check.{brokenOf}
 use Rattle.catalogue.proofs.rule.first_broken.Statement.{statement}
 use Rattle.catalogue.proofs.rule.first_broken.Tie as tie

@@ -1,12 +1,10 @@
 -- `catalogue::rule::record_ok` meets its contract. Assumes nothing.
-use mathlib.Core.Bool.{Bool, true, false}
-use mathlib.Core.Path.{_≡_, sym, ap, _∙_}
+use mathlib.Core.Bool.{true}
+use mathlib.Core.Path.{_≡_, sym, _∙_}
 use borrow.Author.Tests.{not-true, not-false}
-use Prim.Native.Nat.{ℕ}
 use lib.Dec.{ltb}
 use mir.Syntax.{w32, w64}
 use Rattle.numbers.specs.Num.{Num, held, cast, fits, back}
-use Rattle.catalogue.specs.Format.{componentOf, identityOf}
 use Rattle.catalogue.specs.Rule.{directionOk}
 use Rattle.catalogue.specs.RuleSteps.{starOk, star-broken, star-kept, rises-first, rises-next}
 use borrow.Author.Needs.{needs}

@@ -1,13 +1,12 @@
 -- `direction::position::norm` meets its contract. The squares of the sizes are small, so that 65,536 times their sum fits. Assumes nothing.
-use mathlib.Core.Path.{_≡_, sym, ap, _∙_}
+use mathlib.Core.Path.{_≡_, ap, _∙_}
 use Prim.Native.Nat.{ℕ, _+_, _*_, _≤_}
-use native.Mathlib.Nat.{mul-le-mul}
 use native.Mathlib.Omega.{arith}
-use lib.IntN.{ℤ, natAbs}
+use lib.IntN.{natAbs}
 use mir.Syntax.{w64}
 use Rattle.numbers.specs.Root.{root as rootOf}
 use Rattle.numbers.specs.Num.{arg, back}
-use Rattle.direction.specs.Position.{square, normOf}
+use Rattle.direction.specs.Position.{normOf}
 use Rattle.direction.specs.PositionBounds.{x-small, y-small, f-small}
 use borrow.Author.Needs.{needs}
 use Rattle.direction.proofs.position.norm.Statement.{statement}

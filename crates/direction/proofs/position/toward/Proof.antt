@@ -1,8 +1,8 @@
 -- `direction::position::toward` meets its contract: N is not 0, and each product fits. Assumes nothing.
-use mathlib.Core.Path.{_≡_, sym, ap, _∙_}
-use Prim.Native.Nat.{ℕ, _<_}
+use mathlib.Core.Path.{_≡_, ap, _∙_}
+use Prim.Native.Nat.{_<_}
 use native.Mathlib.Omega.{arith}
-use lib.IntN.{ℤ, pos, natAbs}
+use lib.IntN.{pos, natAbs}
 use mir.Syntax.{w64}
 use Rattle.numbers.specs.Abs.{positive-size}
 use Rattle.numbers.specs.Num.{Num, num, arg, lit, mul, quot, fits, back, divides}

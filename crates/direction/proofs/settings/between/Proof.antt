@@ -1,6 +1,4 @@
 -- `direction::settings::between` meets its contract. Assumes nothing.
-use mathlib.Core.Path.{_≡_, sym, ap, _∙_}
-use lib.IntN.{ℤ}
 use lib.Signed.{leZ}
 use mir.Syntax.{w64}
 use Rattle.numbers.specs.Num.{Num, param, back, tested-le}

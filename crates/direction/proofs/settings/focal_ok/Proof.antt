@@ -1,6 +1,6 @@
 -- `direction::settings::focal_ok` meets its contract. Assumes nothing.
 use mathlib.Core.Path.{ap, _∙_}
-use lib.IntN.{ℤ, pos}
+use lib.IntN.{ℤ}
 use Rattle.numbers.specs.Num.{param, back}
 use Rattle.direction.specs.Settings.{focalOk}
 use borrow.Author.Needs.{needs}

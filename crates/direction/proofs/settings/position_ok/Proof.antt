@@ -1,5 +1,4 @@
 -- `direction::settings::position_ok` meets its contract. Assumes nothing.
-use mathlib.Core.Bool.{Bool, true, false}
 use mathlib.Core.Path.{_≡_, sym, ap, _∙_}
 use lib.IntN.{ℤ}
 use Rattle.numbers.specs.Num.{param, back}
