@@ -8,13 +8,13 @@ use Rattle.refusal.specs.Numbers.{catalogue, recordRule}
 use Rattle.refusal.specs.Table.{Row, row, rowAt, lowest, answered}
 use Rattle.catalogue.specs.declared.Checked.{Checked}
 use Rattle.catalogue.specs.declared.Checked.the-variants.{Refused, Records}
-use Rattle.catalogue.specs.Format.{recordSize, recordsIn}
+use Rattle.catalogue.specs.Format.{recordSize, mostRecords, recordsIn}
 use Rattle.catalogue.specs.Rule.{recordOk}
 use Rattle.catalogue.specs.First.{first}
 
 -- a multiple of a record's size, and 1 to 512 records
 unfoldable pub lengthOk : ℕ → Bool
-lengthOk n = eqb (n % recordSize) 0 && leb 1 (n / recordSize) && leb (n / recordSize) 512
+lengthOk n = eqb (n % recordSize) 0 && leb 1 (n / recordSize) && leb (n / recordSize) mostRecords
 
 -- the first record that breaks its rule, or the number of records where each keeps it
 unfoldable pub brokenOf : List ℕ → ℕ

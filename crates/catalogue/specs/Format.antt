@@ -11,6 +11,10 @@ use lib.ListN.{length, getD}
 abbrev pub recordSize : ℕ
 recordSize = 16
 
+-- and how many records a catalogue may have
+abbrev pub mostRecords : ℕ
+mostRecords = 512
+
 -- how many whole records there are
 abbrev pub recordsIn : List ℕ → ℕ
 recordsIn bytes = length bytes / recordSize

@@ -7,14 +7,24 @@ use lib.Dec.{leb, ltb}
 use lib.IntN.{ℤ, pos, natAbs, _+ℤ_, _-ℤ_, _*ℤ_}
 use Rattle.catalogue.specs.Format.{identityOf, componentOf}
 
+-- how far from 0 a component may lie, what the sum of the squares is to be, and how far from that it may lie
+abbrev pub largest : ℕ
+largest = 1000000000
+
+abbrev pub norm : ℕ
+norm = 1000000000000000000
+
+abbrev pub slack : ℕ
+slack = 4000000000
+
 abbrev pub inRange : ℤ → Bool
-inRange z = leb (natAbs z) 1000000000
+inRange z = leb (natAbs z) largest
 
 abbrev pub squares : ℤ → ℤ → ℤ → ℤ
 squares x y z = x *ℤ x +ℤ y *ℤ y +ℤ z *ℤ z
 
 abbrev pub normOk : ℤ → ℤ → ℤ → Bool
-normOk x y z = leb (natAbs (squares x y z -ℤ pos 1000000000000000000)) 4000000000
+normOk x y z = leb (natAbs (squares x y z -ℤ pos norm)) slack
 
 unfoldable pub directionOk : ℤ → ℤ → ℤ → Bool
 directionOk x y z = inRange x && inRange y && inRange z && normOk x y z

@@ -9,8 +9,8 @@ use lib.Dec.{leb, eqb}
 use lib.IntN.{ℤ, pos, natAbs, _-ℤ_}
 use lib.ListN.{length}
 use Rattle.numbers.specs.Within.{Within}
-use Rattle.catalogue.specs.Format.{recordSize, recordsIn, identityOf, componentOf}
-use Rattle.catalogue.specs.Rule.{inRange, squares, normOk, directionOk, identityRises, recordOk}
+use Rattle.catalogue.specs.Format.{recordSize, mostRecords, recordsIn, identityOf, componentOf}
+use Rattle.catalogue.specs.Rule.{largest, norm, slack, inRange, squares, normOk, directionOk, identityRises, recordOk}
 use Rattle.catalogue.specs.RuleSteps.{starOk}
 use Rattle.catalogue.specs.Check.{lengthOk}
 use Rattle.catalogue.specs.Valid.{LengthRule, StarRule, RecordRule}
@@ -24,16 +24,16 @@ module _ (bytes : List ℕ) where
   pub ok-length : lengthOk (length bytes) ≡ true → LengthRule bytes
   unfolding lengthOk
   ok-length e =
-      let p = both (eqb (length bytes % recordSize) 0 && leb 1 (length bytes / recordSize)) (leb (length bytes / recordSize) 512) e in
+      let p = both (eqb (length bytes % recordSize) 0 && leb 1 (length bytes / recordSize)) (leb (length bytes / recordSize) mostRecords) e in
       let q = both (eqb (length bytes % recordSize) 0) (leb 1 (length bytes / recordSize)) (p .0) in
       let w = eqb-true (length bytes % recordSize) 0 (q .0) in
-      record { whole = omega arith; some = leb-true 1 (recordsIn bytes) (q .1); most = leb-true (recordsIn bytes) 512 (p .1) }
+      record { whole = omega arith; some = leb-true 1 (recordsIn bytes) (q .1); most = leb-true (recordsIn bytes) mostRecords (p .1) }
 
   pub length-ok : LengthRule bytes → lengthOk (length bytes) ≡ true
   unfolding lengthOk
   length-ok h =
       let w : length bytes % recordSize ≡ 0 = omega (arith, h .whole) in
-      rw (eq-eqb (length bytes % recordSize) 0 w, le-leb 1 (recordsIn bytes) (h .some), le-leb (recordsIn bytes) 512 (h .most))
+      rw (eq-eqb (length bytes % recordSize) 0 w, le-leb 1 (recordsIn bytes) (h .some), le-leb (recordsIn bytes) mostRecords (h .most))
 
 -- ---- a record by itself
 
@@ -56,13 +56,13 @@ module _ (bytes : List ℕ) (i : ℕ) where
       let p = both (inRange x && inRange y && inRange z) (normOk x y z) e in
       let q = both (inRange x && inRange y) (inRange z) (p .0) in
       let r = both (inRange x) (inRange y) (q .0) in
-      record { x = near 1000000000 x (r .0); y = near 1000000000 y (r .1); z = near 1000000000 z (q .1); norm = near 4000000000 (squares x y z -ℤ pos 1000000000000000000) (p .1) }
+      record { x = near largest x (r .0); y = near largest y (r .1); z = near largest z (q .1); norm = near slack (squares x y z -ℤ pos norm) (p .1) }
 
   star-ok : StarRule bytes i → starOk bytes i ≡ true
   unfolding directionOk
   star-ok h =
-      rw (le-leb (natAbs x) 1000000000 (h .x .within), le-leb (natAbs y) 1000000000 (h .y .within), le-leb (natAbs z) 1000000000 (h .z .within))
-      (le-leb (natAbs (squares x y z -ℤ pos 1000000000000000000)) 4000000000 (h .norm .within))
+      rw (le-leb (natAbs x) largest (h .x .within), le-leb (natAbs y) largest (h .y .within), le-leb (natAbs z) largest (h .z .within))
+      (le-leb (natAbs (squares x y z -ℤ pos norm)) slack (h .norm .within))
 
 -- ---- and against the record before
 

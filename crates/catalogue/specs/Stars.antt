@@ -5,11 +5,11 @@ use Prim.Native.Nat.{ℕ, zero, suc, _-_, min}
 use lib.Dec.{ltb}
 use lib.IntN.{ℤ, pos}
 use lib.ListN.{length, replicate}
-use Rattle.catalogue.specs.Format.{recordsIn, identityOf, componentOf}
+use Rattle.catalogue.specs.Format.{mostRecords, recordsIn, identityOf, componentOf}
 
--- how many records are decoded: a catalogue has at most 512
+-- how many records are decoded: no more than a catalogue may have
 abbrev pub starsIn : List ℕ → ℕ
-starsIn bytes = min (recordsIn bytes) 512
+starsIn bytes = min (recordsIn bytes) mostRecords
 
 -- x, y and z of record i
 abbrev pub starOf : List ℕ → ℕ → List ℤ

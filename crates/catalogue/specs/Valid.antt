@@ -5,21 +5,21 @@ use Prim.Native.Nat.{ℕ, suc, _*_, _≤_, _<_}
 use lib.IntN.{pos, _-ℤ_}
 use lib.ListN.{length}
 use Rattle.numbers.specs.Within.{Within}
-use Rattle.catalogue.specs.Format.{recordSize, recordsIn, identityOf, componentOf}
-use Rattle.catalogue.specs.Rule.{squares}
+use Rattle.catalogue.specs.Format.{recordSize, mostRecords, recordsIn, identityOf, componentOf}
+use Rattle.catalogue.specs.Rule.{largest, norm, slack, squares}
 
 -- whole records, 1 to 512
 pub record LengthRule (bytes : List ℕ) : Type 0 where
   pub whole : length bytes ≡ recordSize * recordsIn bytes
   pub some : 1 ≤ recordsIn bytes
-  pub most : recordsIn bytes ≤ 512
+  pub most : recordsIn bytes ≤ mostRecords
 
 -- what record i has to keep by itself
 pub record StarRule (bytes : List ℕ) (i : ℕ) : Type 0 where
-  pub x : Within 1000000000 (componentOf bytes i 0)
-  pub y : Within 1000000000 (componentOf bytes i 1)
-  pub z : Within 1000000000 (componentOf bytes i 2)
-  pub norm : Within 4000000000 (squares (componentOf bytes i 0) (componentOf bytes i 1) (componentOf bytes i 2) -ℤ pos 1000000000000000000)
+  pub x : Within largest (componentOf bytes i 0)
+  pub y : Within largest (componentOf bytes i 1)
+  pub z : Within largest (componentOf bytes i 2)
+  pub norm : Within slack (squares (componentOf bytes i 0) (componentOf bytes i 1) (componentOf bytes i 2) -ℤ pos norm)
 
 -- and against the record before, if there is one
 pub record RecordRule (bytes : List ℕ) (i : ℕ) : Type 0 where

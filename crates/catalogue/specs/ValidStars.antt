@@ -10,11 +10,12 @@ use lib.Seq.{take-at}
 use Rattle.numbers.specs.Within.{Within}
 use Rattle.vectors.specs.Triples.{AllWithin}
 use Rattle.catalogue.specs.Format.{recordsIn, componentOf}
+use Rattle.catalogue.specs.Rule.{largest}
 use Rattle.catalogue.specs.Stars.{starsIn, starsOf, padded}
 use Rattle.catalogue.specs.StarsLaws.{stars-length, star-at, number-at}
 use Rattle.catalogue.specs.Valid.{StarRule, Valid}
 
-axis-within : {bytes : List ℕ} {i : ℕ} → StarRule bytes i → (k : ℕ) → k < 3 → Within 1000000000 (componentOf bytes i k)
+axis-within : {bytes : List ℕ} {i : ℕ} → StarRule bytes i → (k : ℕ) → k < 3 → Within largest (componentOf bytes i k)
 axis-within s zero h = s .x
 axis-within s (suc zero) h = s .y
 axis-within s (suc (suc zero)) h = s .z
@@ -37,16 +38,16 @@ module _ (bytes : List ℕ) (v : Valid bytes) where
   pub valid-at : (i k : ℕ) → i < recordsIn bytes → k < 3 → getD (starsOf bytes) (3 * i + k) (pos 0) ≡ componentOf bytes i k
   valid-at i k h l = star-at bytes i k (omega (arith, all-decoded)) l
 
-  pub valid-within : AllWithin 1000000000 (starsOf bytes)
+  pub valid-within : AllWithin largest (starsOf bytes)
   valid-within = record { at = λ m. go m (decLt m (3 * recordsIn bytes)) }
     where
-      go : (m : ℕ) → Dec (m < 3 * recordsIn bytes) → Within 1000000000 (getD (starsOf bytes) m (pos 0))
+      go : (m : ℕ) → Dec (m < 3 * recordsIn bytes) → Within largest (getD (starsOf bytes) m (pos 0))
       go m (yes h) =
-          subst (Within 1000000000) (sym (number-at bytes m (omega (arith, all-decoded))))
+          subst (Within largest) (sym (number-at bytes m (omega (arith, all-decoded))))
           (axis-within (v .stars (m / 3) (omega arith)) (m % 3) (omega arith))
       go m (no h) =
           let e : length (starsOf bytes) ≤ m = omega (arith, valid-length) in
-          subst (Within 1000000000) (sym (List·getD-eq-default (starsOf bytes) (pos 0) e)) (record { within = zero-le })
+          subst (Within largest) (sym (List·getD-eq-default (starsOf bytes) (pos 0) e)) (record { within = zero-le })
 
   -- the part of the array that is filled
   pub valid-front : take (3 * recordsIn bytes) (padded (starsOf bytes)) ≡ starsOf bytes

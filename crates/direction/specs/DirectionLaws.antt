@@ -16,7 +16,7 @@ use Rattle.direction.specs.declared.Direction.the-variants.{Refused, Fou
 use Rattle.direction.specs.Settings.{settingsOk, positionOk}
 use Rattle.direction.specs.SettingsLaws.{Settings, Position, ok-settings, settings-ok, ok-position, position-ok}
 use Rattle.direction.specs.Position.{towardOf}
-use Rattle.direction.specs.PositionBounds.{toward-within}
+use Rattle.direction.specs.PositionLaws.{toward-within}
 use Rattle.direction.specs.Direction.{refusalsOf, directionOf, outOfRange}
 
 module _ (cx cy f x y : ℤ) where

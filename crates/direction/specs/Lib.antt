@@ -5,6 +5,6 @@ pub mod ListLaws
 pub mod Settings
 pub mod Position
 pub mod Direction
-pub mod PositionBounds
+pub mod PositionLaws
 pub mod SettingsLaws
 pub mod DirectionLaws

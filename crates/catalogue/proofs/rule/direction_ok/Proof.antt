@@ -8,7 +8,7 @@ use mir.Syntax.{w64}
 use mir.Val.{SFits, toZ, ofZ}
 use Rattle.numbers.specs.Within.{Within}
 use Rattle.numbers.specs.Num.{Num, param, arg, lit, mul, add, sub, fits, back}
-use Rattle.catalogue.specs.Rule.{inRange, directionOk}
+use Rattle.catalogue.specs.Rule.{largest, norm, slack, inRange, directionOk}
 use borrow.Author.Needs.{needs}
 use Rattle.catalogue.proofs.rule.direction_ok.Statement.{statement}
 use Rattle.catalogue.proofs.rule.direction_ok.Tie as tie
@@ -35,8 +35,8 @@ y-in c = sym (y-tested (c .before)) ∙ not-false _ (c .if2 .left)
 z-in : (c : tie.Else3) → inRange (c .before .before .before .before .before .before .args .z) ≡ true
 z-in c = sym (z-tested (c .before)) ∙ not-false _ (c .if3 .left)
 
-within-of : (z : ℤ) → inRange z ≡ true → Within 1000000000 z
-within-of z e = record { within = leb-true (natAbs z) 1000000000 e }
+within-of : (z : ℤ) → inRange z ≡ true → Within largest z
+within-of z e = record { within = leb-true (natAbs z) largest e }
 
 abbrev xx : tie.Else3 → Num w64
 xx c = let x = arg (within-of (c .before .before .before .before .before .before .args .x) (x-in (c .before .before .before .before))) tt in mul x x tt
@@ -54,7 +54,7 @@ abbrev sum : tie.Else3 → Num w64
 sum c = add (two c) (zz c) tt
 
 abbrev apart : tie.Else3 → Num w64
-apart c = sub (sum c) (lit (pos 1000000000000000000) tt) tt
+apart c = sub (sum c) (lit (pos norm) tt) tt
 
 within-requires : tie.Need-within-requires
 within-requires c κs = search needs
@@ -103,7 +103,7 @@ unfolding directionOk
 returns-4 c =
     let t = c .before in
     rw (x-in (t .before .before .before .before), y-in (t .before .before), z-in t)
-    (c .within4 .ensures ∙ ap (λ (d : ℤ). leb (natAbs d) 4000000000) (back (apart t)))
+    (c .within4 .ensures ∙ ap (λ (d : ℤ). leb (natAbs d) slack) (back (apart t)))
 
 pub direction-ok-spec : {M : Type 1} → statement M
 direction-ok-spec =

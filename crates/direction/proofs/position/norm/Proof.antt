@@ -7,7 +7,7 @@ use mir.Syntax.{w64}
 use Rattle.numbers.specs.Root.{root as rootOf}
 use Rattle.numbers.specs.Num.{arg, back}
 use Rattle.direction.specs.Position.{normOf}
-use Rattle.direction.specs.PositionBounds.{x-small, y-small, f-small}
+use Rattle.direction.specs.PositionLaws.{x-small, y-small, f-small}
 use borrow.Author.Needs.{needs}
 use Rattle.direction.proofs.position.norm.Statement.{statement}
 use Rattle.direction.proofs.position.norm.Tie as tie

@@ -7,7 +7,7 @@ use mir.Syntax.{w64}
 use Rattle.numbers.specs.Abs.{positive-size}
 use Rattle.numbers.specs.Num.{Num, num, arg, lit, mul, quot, fits, back, divides}
 use Rattle.direction.specs.Position.{normOf, towardOf}
-use Rattle.direction.specs.PositionBounds.{covers-f, norm-small}
+use Rattle.direction.specs.PositionLaws.{covers-f, norm-small}
 use borrow.Author.Needs.{needs}
 use Rattle.direction.proofs.position.toward.Statement.{statement}
 use Rattle.direction.proofs.position.toward.Tie as tie

@@ -1,4 +1,5 @@
--- How large N and a direction are: N is at least 256 times each offset, so that a direction stays within ±10^9. Assumes nothing.
+-- What N is, and how large N and a direction are: N is at least 256 times each offset, so that a direction stays within ±10^9. Assumes nothing.
+use mathlib.Core.Path.{_≡_, sym}
 use Prim.Native.Nat.{ℕ, _+_, _*_, _≤_}
 use native.Mathlib.Nat.{mul-le-mul, le-trans, div-le-of-le-mul}
 use native.Mathlib.Decide.{decLe}
@@ -6,9 +7,14 @@ use native.Mathlib.Omega.{arith}
 use lib.IntN.{ℤ, natAbs}
 use Rattle.numbers.specs.Abs.{abs-mul, abs-quot}
 use Rattle.numbers.specs.Within.{Within}
-use Rattle.numbers.specs.Root.{root, root-is, square-root}
+use Rattle.numbers.specs.Root.{Root, root, root-is, root-of, square-root}
 use Rattle.vectors.specs.Vectors.{Within3}
 use Rattle.direction.specs.Position.{square, normOf, scaledOf, towardOf}
+
+-- N by its own squares: whatever number has them is N
+pub norm-by : (x y f : ℤ) {n : ℕ} → Root (65536 * (square x + square y + square f)) n → normOf x y f ≡ n
+unfolding normOf
+norm-by x y f h = sym (root-of h)
 
 -- the root of 65,536 times a sum is at least 256 times what has its square in the sum
 covers : (a s : ℕ) → a * a ≤ s → 256 * a ≤ root (65536 * s)
