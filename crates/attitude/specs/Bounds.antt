@@ -1,7 +1,7 @@
 -- How large each number on the way to the matrix is, so that every step fits: d is below 2^30, t2 within 10^9, t3 within 2 * 10^9, an entry's
 -- sum within 6 * 10^18 and the entry within 6 * 10^9. Assumes nothing.
 use mathlib.Core.Path.{_≡_}
-use Prim.Native.Nat.{ℕ, zero, suc, _+_, _*_, _/_, _^_, _≤_, _<_, max, zero-le}
+use Prim.Native.Nat.{ℕ, zero, suc, _*_, _/_, _^_, _≤_, _<_, max, zero-le}
 use native.Mathlib.Nat.{mul-le-mul, mul-le-mul-left, mul-comm, le-trans, le-div-iff-mul-le, div-mul-le-self, div-le-of-le-mul}
 use native.Mathlib.Decide.{decLe}
 use native.Mathlib.Omega.{arith}
@@ -11,13 +11,13 @@ use lib.Pow.{pow-pos}
 use lib.Signed.{quotZ}
 use Rattle.numbers.specs.Abs.{abs-mul, abs-quot}
 use Rattle.numbers.specs.Within.{Within, within-add, within-mul}
-use Rattle.numbers.specs.Root.{Root, root, root-is, square-root}
+use Rattle.numbers.specs.Root.{root, root-is, square-root}
 use Rattle.vectors.specs.declared.Vec3.{Vec3}
-use Rattle.vectors.specs.Vectors.{Within3, crossOf}
+use Rattle.vectors.specs.Vectors.{Within3}
 use Rattle.vectors.specs.Laws.{wider3, cross-within}
 use Rattle.attitude.specs.declared.side.Axes.{Axes}
 use Rattle.attitude.specs.Scale.{largestOf, overOf, shiftOf, reducedOf}
-use Rattle.attitude.specs.Side.{squaresOf, unitBy, unitOf, axesOf}
+use Rattle.attitude.specs.Side.{squaresOf, unitOf, axesOf}
 use Rattle.attitude.specs.Entries.{AxesWithin, MatrixWithin, entryBy, rowBy, productOf}
 use Rattle.attitude.specs.Shift.{Shift, shift-is, shift-at, kept}
 

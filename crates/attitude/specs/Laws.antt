@@ -4,11 +4,14 @@ use borrow.Author.Tests.{lt-ltb, le-ltb, ltb-true, ltb-false, eqb-false}
 use mathlib.Core.Bool.{Bool, true, false, cond, _||_, false≢true, true≢false}
 use mathlib.Core.List.{[], _∷_}
 use mathlib.Core.Logic.{_↔_, _⊎_, inl, inr}
-use mathlib.Core.Path.{_≡_, refl, ap, subst}
+use mathlib.Core.Path.{_≡_, refl, sym, ap, _∙_, subst}
 use Prim.Native.Nat.{ℕ, _^_, _≤_, _<_}
 use native.Mathlib.Omega.{arith}
+use lib.Dec.{ltb}
+use lib.IntN.{ℤ, pos, _-ℤ_, _*ℤ_, *ℤ-comm, +ℤ-invr}
 use Rattle.refusal.specs.Numbers.{directions, close}
 use Rattle.refusal.specs.declared.Refusal.{Refusal}
+use Rattle.refusal.specs.declared.Outcome.{Outcome}
 use Rattle.refusal.specs.declared.Outcome.the-variants.{Accepted, Refused as Stopped}
 use Rattle.refusal.specs.Table.{row, lowest, answered}
 use Rattle.refusal.specs.Laws.{Silent, accepted-silent}
@@ -20,7 +23,7 @@ use Rattle.attitude.specs.declared.Attitude.{Attitude}
 use Rattle.attitude.specs.declared.Attitude.the-variants.{Refused, Found}
 use Rattle.attitude.specs.Scale.{largestOf}
 use Rattle.attitude.specs.Entries.{MatrixWithin}
-use Rattle.attitude.specs.Attitude.{beyond, outOfRange, tooClose, eitherClose, refusalsOf, matrixOf, attitudeOf, Answer, answerOf, answerFor}
+use Rattle.attitude.specs.Attitude.{beyond, outOfRange, tooClose, eitherClose, refusalsOf, matrixOf, attitudeOf, answerOf, answerFor}
 use Rattle.attitude.specs.Bounds.{largest-within, axes-within, product-within}
 
 -- ---- the two conditions, in numbers
@@ -73,10 +76,10 @@ apart-is v1 v2 w1 w2 =
 -- ---- which answer is given
 
 -- the answer by the two conditions alone
-abbrev given : Bool → Bool → Matrix → Attitude
+abbrev pub given : Bool → Bool → Matrix → Attitude
 given a b m = answered Refused (Found m) (lowest (row a directions ∷ (row b close ∷ [])))
 
-abbrev refusedAs : ℕ → Attitude
+abbrev pub refusedAs : ℕ → Attitude
 refusedAs n = Refused (record { number = n; place = 0 })
 
 module _ (m : Matrix) where
@@ -134,22 +137,21 @@ module _ (v1 v2 w1 w2 : Vec3) where
   unfolding attitudeOf
   not-refused = found (matrixOf v1 v2 w1 w2) (outOfRange v1 v2 w1 w2) (eitherClose v1 v2 w1 w2)
 
-  -- as the code meets them: the rows first, then the matrix
-  pub by-refusal : (r : Refusal) → lowest (refusalsOf v1 v2 w1 w2) ≡ Stopped r → attitudeOf v1 v2 w1 w2 ≡ Refused r
-  unfolding attitudeOf
-  by-refusal r e = rw e
+  -- as the code meets them: the outcome of the rows first, then the matrix
+  module _ {o : Outcome} (rows : o ≡ lowest (refusalsOf v1 v2 w1 w2)) where
+    pub by-refusal : {r : Refusal} → o ≡ Stopped r → attitudeOf v1 v2 w1 w2 ≡ Refused r
+    unfolding attitudeOf
+    by-refusal e = rw (← rows, e)
 
-  pub by-acceptance : lowest (refusalsOf v1 v2 w1 w2) ≡ Accepted → attitudeOf v1 v2 w1 w2 ≡ Found (matrixOf v1 v2 w1 w2)
-  unfolding attitudeOf
-  by-acceptance e = rw e
+    pub by-acceptance : o ≡ Accepted → attitudeOf v1 v2 w1 w2 ≡ Found (matrixOf v1 v2 w1 w2)
+    unfolding attitudeOf
+    by-acceptance e = rw (← rows, e)
 
-  pub acceptable :
-      lowest (refusalsOf v1 v2 w1 w2) ≡ Accepted →
-      InRange v1 v2 w1 w2 × ((2 ^ 30 ≤ largestOf (crossOf v1 v2)) × (2 ^ 30 ≤ largestOf (crossOf w1 w2)))
-  unfolding Silent
-  acceptable e =
-      let s = accepted-silent (refusalsOf v1 v2 w1 w2) e in
-      (in-range v1 v2 w1 w2 .0 (s .0), apart-is v1 v2 w1 w2 .0 (s .1 .0))
+    pub acceptable : o ≡ Accepted → InRange v1 v2 w1 w2 × ((2 ^ 30 ≤ largestOf (crossOf v1 v2)) × (2 ^ 30 ≤ largestOf (crossOf w1 w2)))
+    unfolding Silent
+    acceptable e =
+        let s = accepted-silent (refusalsOf v1 v2 w1 w2) (sym rows ∙ e) in
+        (in-range v1 v2 w1 w2 .0 (s .0), apart-is v1 v2 w1 w2 .0 (s .1 .0))
 
   -- four vectors in range are not refused by 8
   pub in-range-answer :
@@ -167,3 +169,17 @@ module _ (v1 v2 w1 w2 : Vec3) where
   unfolding attitudeOf
   entries-within m e =
       within-if (matrixOf v1 v2 w1 w2) (outOfRange v1 v2 w1 w2) (eitherClose v1 v2 w1 w2) m e (λ f. matrix-within (in-range v1 v2 w1 w2 .0 f))
+
+-- ---- one direction twice is too close
+
+cancelled : (a b : ℤ) → a *ℤ b -ℤ b *ℤ a ≡ pos 0
+cancelled a b = ap (λ (z : ℤ). a *ℤ b -ℤ z) (*ℤ-comm b a) ∙ +ℤ-invr (a *ℤ b)
+
+pub same-close : (v : Vec3) → tooClose v v ≡ true
+same-close v =
+    ap (λ (c : Vec3). ltb (largestOf c) (2 ^ 30))
+    (λ i. record { x = cancelled (v .y) (v .z) i; y = cancelled (v .z) (v .x) i; z = cancelled (v .x) (v .y) i })
+
+pub same-refused : (v w1 w2 : Vec3) → InRange v v w1 w2 → attitudeOf v v w1 w2 ≡ refusedAs close
+unfolding attitudeOf lowest
+same-refused v w1 w2 h = rw (in-range v v w1 w2 .1 h, same-close v)

@@ -6,3 +6,6 @@ pub mod Attitude
 pub mod Shift
 pub mod Bounds
 pub mod Laws
+pub mod Transposed
+pub mod Known
+pub mod Bench

@@ -1,6 +1,6 @@
 // The matrix of two sides: an entry for each component of the camera and each of the sky.
 use super::Matrix;
-use super::side::Axes;
+use super::side::{Axes, ONE};
 use vectors::Vec3;
 ghost use mathlib.Core.Path.{_≡_};
 ghost use Rattle.numbers.specs.Within.{Within};
@@ -16,7 +16,7 @@ fn entry(a: i64, b: i64, c: i64, x: i64, y: i64, z: i64) -> i64
     requires { ⌜ Within 2000000000 z ⌝ }
     ensures { λ r. ⌜ r ≡ entryBy a b c x y z ⌝ }
 {
-    (a * x + b * y + c * z) / 1_000_000_000
+    (a * x + b * y + c * z) / ONE
 }
 
 // The row of the camera component that is a, b and c of the three axes.

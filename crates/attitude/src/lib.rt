@@ -12,6 +12,9 @@ ghost use Rattle.vectors.specs.Vectors.{Within3};
 ghost use Rattle.refusal.specs.Table.{lowest};
 ghost use Rattle.attitude.specs.Attitude.{beyond, tooClose, refusalsOf, attitudeOf, answerOf, answerFor};
 
+// How far from 0 a component may lie.
+const LARGEST: u64 = 1_000_000_000;
+
 // The matrix that carries sky to camera, 10^9 standing for 1.
 pub struct Matrix {
     pub row0: Vec3,
@@ -62,7 +65,7 @@ fn tested(v1: Vec3, v2: Vec3, w1: Vec3, w2: Vec3) -> Outcome
 fn out_of_range(v: Vec3, w: Vec3) -> bool
     ensures { λ r. ⌜ r ≡ (beyond v || beyond w) ⌝ }
 {
-    scale::largest(v) > 1_000_000_000 || scale::largest(w) > 1_000_000_000
+    scale::largest(v) > LARGEST || scale::largest(w) > LARGEST
 }
 
 // Whether the two vectors of a side are too near to one line to span a plane.
@@ -71,5 +74,5 @@ fn too_close(v: Vec3, w: Vec3) -> bool
     requires { ⌜ Within3 1000000000 w ⌝ }
     ensures { λ r. ⌜ r ≡ tooClose v w ⌝ }
 {
-    scale::largest(vectors::cross(v, w)) < 0x4000_0000
+    scale::largest(vectors::cross(v, w)) < scale::LIMIT
 }

@@ -7,6 +7,9 @@ ghost use lib.Signed.{_<ℤ_};
 ghost use Rattle.vectors.specs.Vectors.{Within3};
 ghost use Rattle.attitude.specs.Scale.{largestOf, overOf, shiftOf, reducedOf};
 
+// 2^30: d is below it, and a cross product below it belongs to two vectors that are too close.
+pub const LIMIT: u64 = 0x4000_0000;
+
 fn larger(a: u64, b: u64) -> u64
     ensures { λ r. ⌜ r ≡ max a b ⌝ }
 {
@@ -44,7 +47,7 @@ fn shift(m: u64) -> u64
     ensures { λ r. ⌜ r ≡ shiftOf m ⌝ }
 {
     let mut k: u64 = 0;
-    while (m >> k) >= 0x4000_0000 {
+    while (m >> k) >= LIMIT {
         k += 1;
     }
     k

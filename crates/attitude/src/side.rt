@@ -9,6 +9,9 @@ ghost use Rattle.vectors.specs.Vectors.{Within3, crossOf};
 ghost use Rattle.attitude.specs.Scale.{largestOf};
 ghost use Rattle.attitude.specs.Side.{squaresOf, unitBy, unitOf, axesOf};
 
+// The length of an axis.
+pub const ONE: i64 = 1_000_000_000;
+
 // t1 along the first direction, t2 along the cross product of the two, t3 across both.
 pub struct Axes {
     pub t1: Vec3,
@@ -37,9 +40,9 @@ fn unit_by(d: Vec3, n: i64) -> Vec3
     let y = d.y;
     let z = d.z;
     Vec3 {
-        x: 1_000_000_000 * x / n,
-        y: 1_000_000_000 * y / n,
-        z: 1_000_000_000 * z / n,
+        x: ONE * x / n,
+        y: ONE * y / n,
+        z: ONE * z / n,
     }
 }
 
@@ -60,6 +63,6 @@ pub fn axes_of(v: Vec3, w: Vec3) -> Axes
     ensures { λ r. ⌜ r ≡ axesOf v w ⌝ }
 {
     let t2 = unit(scale::reduced(vectors::cross(v, w)));
-    let t3 = scale::over(vectors::cross(v, t2), 1_000_000_000);
+    let t3 = scale::over(vectors::cross(v, t2), ONE);
     Axes { t1: v, t2, t3 }
 }

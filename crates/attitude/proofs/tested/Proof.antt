@@ -1,12 +1,11 @@
 -- `attitude::tested` meets its contract: the tests stand in the order of the rows. Assumes nothing.
 use borrow.Author.Needs.{needs}
 use mathlib.Core.Bool.{Bool, true, false, _||_}
-use mathlib.Core.List.{[], _∷_}
 use mathlib.Core.Path.{_≡_, sym, _∙_}
 use Rattle.refusal.specs.Numbers.{directions, close}
 use Rattle.refusal.specs.declared.Outcome.{Outcome}
 use Rattle.refusal.specs.declared.Outcome.the-variants.{Accepted}
-use Rattle.refusal.specs.Table.{refusalOf, row, lowest}
+use Rattle.refusal.specs.Table.{refusalOf, lowest}
 use Rattle.attitude.specs.Attitude.{beyond, tooClose, refusalsOf}
 use Rattle.attitude.specs.Laws.{pair-in-range}
 use Rattle.attitude.proofs.tested.Statement.{statement}

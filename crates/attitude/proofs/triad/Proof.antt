@@ -2,16 +2,13 @@
 use borrow.Author.Needs.{needs}
 use mathlib.Core.Path.{_≡_, sym, ap, _∙_}
 use Prim.Native.Nat.{_^_, _≤_}
-use Rattle.refusal.specs.declared.Outcome.the-variants.{Accepted}
-use Rattle.refusal.specs.Table.{lowest}
 use Rattle.vectors.specs.Vectors.{crossOf}
 use Rattle.attitude.specs.declared.Matrix.{Matrix}
 use Rattle.attitude.specs.declared.Attitude.{Attitude}
 use Rattle.attitude.specs.declared.Attitude.the-variants.{Found}
 use Rattle.attitude.specs.Scale.{largestOf}
-use Rattle.attitude.specs.Side.{axesOf}
 use Rattle.attitude.specs.Entries.{productOf}
-use Rattle.attitude.specs.Attitude.{refusalsOf, matrixOf, attitudeOf, answerOf, answerFor}
+use Rattle.attitude.specs.Attitude.{matrixOf, attitudeOf, answerOf, answerFor}
 use Rattle.attitude.specs.Bounds.{axes-within}
 use Rattle.attitude.specs.Laws.{InRange, answers, by-refusal, by-acceptance, acceptable}
 use Rattle.attitude.proofs.triad.Statement.{statement}
@@ -25,22 +22,15 @@ module _ (s : tie.Start) where
   both : {r : Attitude} → attitude ≡ r → (r ≡ attitude) × (answerOf r ≡ answerFor (s .args .v1) (s .args .v2) (s .args .w1) (s .args .w2))
   both e = (sym e, ap (λ (a : Attitude). answerOf a) (sym e) ∙ answers (s .args .v1) (s .args .v2) (s .args .w1) (s .args .w2))
 
--- no row applies to vectors that are accepted
+-- what the tests leave
 module _ (c : tie.After-enum-told) where
   abbrev start : tie.Start
   start = c .before .before .before
 
-  silent : lowest (refusalsOf (start .args .v1) (start .args .v2) (start .args .w1) (start .args .w2)) ≡ Accepted
-  silent = sym (c .before .before .tested .ensures) ∙ c .enum-told .given .1
-
-  in-range : InRange (start .args .v1) (start .args .v2) (start .args .w1) (start .args .w2)
-  in-range = acceptable (start .args .v1) (start .args .v2) (start .args .w1) (start .args .w2) silent .0
-
-  camera-apart : 2 ^ 30 ≤ largestOf (crossOf (start .args .v1) (start .args .v2))
-  camera-apart = acceptable (start .args .v1) (start .args .v2) (start .args .w1) (start .args .w2) silent .1 .0
-
-  sky-apart : 2 ^ 30 ≤ largestOf (crossOf (start .args .w1) (start .args .w2))
-  sky-apart = acceptable (start .args .v1) (start .args .v2) (start .args .w1) (start .args .w2) silent .1 .1
+  left :
+      InRange (start .args .v1) (start .args .v2) (start .args .w1) (start .args .w2) ×
+      ((2 ^ 30 ≤ largestOf (crossOf (start .args .v1) (start .args .v2))) × (2 ^ 30 ≤ largestOf (crossOf (start .args .w1) (start .args .w2))))
+  left = acceptable (start .args .v1) (start .args .v2) (start .args .w1) (start .args .w2) (c .before .before .tested .ensures) (c .enum-told .given .1)
 
 tested-requires : tie.Need-tested-requires
 tested-requires c κs = search needs
@@ -52,22 +42,22 @@ enum-told : tie.Need-enum-told
 enum-told c = search needs
 
 axes-of-requires : tie.Need-axes-of-requires
-axes-of-requires c κs = (in-range c .v1, (in-range c .v2, camera-apart c))
+axes-of-requires c κs = (left c .0 .v1, (left c .0 .v2, left c .1 .0))
 
 axes-of-requires-2 : tie.Need-axes-of-requires-2
-axes-of-requires-2 c κs = let o = c .before in (in-range o .w1, (in-range o .w2, sky-apart o))
+axes-of-requires-2 c κs = let o = left (c .before) in (o .0 .w1, (o .0 .w2, o .1 .1))
 
 product-requires : tie.Need-product-requires
 product-requires c κs =
-    let o = c .before .before in
-    (rw (c .before .axes-of .ensures) (axes-within _ _ (in-range o .v1)), rw (c .axes-of2 .ensures) (axes-within _ _ (in-range o .w1)))
+    let o = left (c .before .before) .0 in
+    (rw (c .before .axes-of .ensures) (axes-within _ _ (o .v1)), rw (c .axes-of2 .ensures) (axes-within _ _ (o .w1)))
 
 returns : tie.Need-returns
 returns c =
     let told = c .before .before .before in
     let s = told .before in
     let refused = c .before .refusal .given in
-    both s (by-refusal (s .args .v1) (s .args .v2) (s .args .w1) (s .args .w2) (refused .0 .0) (sym (told .tested .ensures) ∙ refused .1))
+    both s (by-refusal (s .args .v1) (s .args .v2) (s .args .w1) (s .args .w2) (told .tested .ensures) (refused .1))
 
 returns-2 : tie.Need-returns-2
 unfolding matrixOf
@@ -77,7 +67,8 @@ returns-2 c =
     let camera = c .before .before .axes-of .ensures in
     let sky = c .before .axes-of2 .ensures in
     let product = c .product .ensures ∙ (λ i. productOf (camera i) (sky i)) in
-    both s (by-acceptance (s .args .v1) (s .args .v2) (s .args .w1) (s .args .w2) (silent o) ∙ ap (λ (m : Matrix). Found m) (sym product))
+    let found = by-acceptance (s .args .v1) (s .args .v2) (s .args .w1) (s .args .w2) (o .before .before .tested .ensures) (o .enum-told .given .1) in
+    both s (found ∙ ap (λ (m : Matrix). Found m) (sym product))
 
 pub triad-spec : {M : Type 1} → statement M
 triad-spec =

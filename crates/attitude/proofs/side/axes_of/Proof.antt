@@ -6,7 +6,7 @@ use Rattle.vectors.specs.declared.Vec3.{Vec3}
 use Rattle.vectors.specs.Vectors.{Within3, crossOf}
 use Rattle.vectors.specs.Laws.{cross-within}
 use Rattle.attitude.specs.Scale.{overOf, reducedOf}
-use Rattle.attitude.specs.Side.{unitOf, axesOf, axesBy}
+use Rattle.attitude.specs.Side.{unitOf, axesOf}
 use Rattle.attitude.specs.Bounds.{reduced-within, reduced-large, unit-within}
 use Rattle.attitude.proofs.side.axes_of.Statement.{statement}
 use Rattle.attitude.proofs.side.axes_of.Tie as tie
