@@ -1,3 +1,5 @@
 -- The definitions that the contracts cite, and what they are for.
 pub mod Once
 pub mod Fit
+pub mod Refusals
+pub mod Identified

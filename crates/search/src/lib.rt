@@ -3,6 +3,7 @@ mod lent;
 mod fit;
 mod backtrack;
 
+use refusal::Outcome;
 ghost use mathlib.Core.Path.{_≡_};
 ghost use Rattle.search.specs.Fit.{setupOf, Input, FirstFit};
 
@@ -23,6 +24,12 @@ pub struct Setup {
 // Whether an assignment was found, and its words: for each direction the star's record number, or the number of stars for none.
 pub struct Answer {
     pub found: bool,
+    pub stars: [u16; 8],
+}
+
+// What the search answers: whether the call is accepted, and the words of the assignment, 0 behind the directions and where it is refused.
+pub struct Identification {
+    pub outcome: Outcome,
     pub stars: [u16; 8],
 }
 
