@@ -1,3 +1,5 @@
 -- The definitions that the chain's contract cites, and their laws.
+pub mod Sight
+pub mod SightLaws
 pub mod Orient
 pub mod OrientLaws
