@@ -1,0 +1,1 @@
+-- What the calls give, in words. Assumes nothing.

@@ -1,0 +1,47 @@
+-- The refusals of a call on a frame: 1 to 4, and 15 where it names a pixel. Each row's condition is document 01's sentence. Assumes nothing.
+use mathlib.Core.Bool.{Bool, true, false, cond, not, _&&_, _||_}
+use mathlib.Core.List.{List, [], _∷_, _++_}
+use Prim.Native.Nat.{ℕ, suc, _*_}
+use lib.ListN.{length}
+use lib.Dec.{ltb, leb, eqb}
+use Rattle.refusal.specs.Numbers as numbers
+use Rattle.refusal.specs.Table.{Row, row, rowAt}
+
+abbrev pub within : ℕ → ℕ → ℕ → Bool
+within least most x = leb least x && leb x most
+
+-- "width or height out of range": each is 7 to 1,024
+abbrev pub sizeOut : ℕ → ℕ → Bool
+sizeOut width height = not (within 7 1024 width) || not (within 7 1024 height)
+
+-- "samples lent are not width x height"
+abbrev pub lengthOut : List ℕ → ℕ → ℕ → Bool
+lengthOut samples width height = not (eqb (length samples) (width * height))
+
+-- "threshold out of range": it is 1 to 4,095
+abbrev pub thresholdOut : ℕ → Bool
+thresholdOut threshold = not (within 1 4095 threshold)
+
+-- the place of the first sample above 4,095, or the number of samples
+unfoldable pub firstOver : List ℕ → ℕ
+firstOver [] = 0
+firstOver (x ∷ xs) = cond (ltb 4095 x) 0 (suc (firstOver xs))
+
+-- "a sample above 4,095": there is a first one
+abbrev pub sampleOut : List ℕ → Bool
+sampleOut samples = ltb (firstOver samples) (length samples)
+
+-- "the pixel asked for is outside the frame"
+abbrev pub pixelOut : ℕ → ℕ → ℕ → ℕ → Bool
+pixelOut width height r c = leb height r || leb width c
+
+abbrev pub frameRows : List ℕ → ℕ → ℕ → ℕ → List Row
+frameRows samples width height threshold =
+    row (sizeOut width height) numbers.size
+    ∷ row (lengthOut samples width height) numbers.samples
+    ∷ row (thresholdOut threshold) numbers.threshold
+    ∷ rowAt (sampleOut samples) numbers.sample (firstOver samples)
+    ∷ []
+
+abbrev pub pixelRows : List ℕ → ℕ → ℕ → ℕ → ℕ → ℕ → List Row
+pixelRows samples width height threshold r c = frameRows samples width height threshold ++ (row (pixelOut width height r c) numbers.pixel ∷ [])

@@ -1,0 +1,150 @@
+-- What an accepted call has passed, and which sample `firstOver` names. Assumes nothing.
+use mathlib.Core.Bool.{Bool, true, false, cond, not, _&&_, _||_}
+use mathlib.Core.Path.{_≡_, refl, sym, ap, _∙_}
+use mathlib.Core.List.{List, [], _∷_, _++_}
+use Prim.Native.Nat.{ℕ, zero, suc, _+_, _*_, _≤_, _<_}
+use native.Mathlib.Nat.{mul-comm, not-suc-le-zero}
+use native.Mathlib.Numerals.{add-one}
+use native.Mathlib.Omega.{arith}
+use lib.ListN.{length, drop, getD, drop-of-length-le}
+use lib.Seq.{drop-cons}
+use lib.Dec.{ltb, leb, eqb}
+use borrow.Author.Tests.{lt-ltb, le-ltb, ltb-true, ltb-false, leb-true, leb-false, eqb-true, not-false}
+use Rattle.refusal.specs.Numbers as numbers
+use Rattle.refusal.specs.Table.{Row, row, refusalOf, lowest}
+use Rattle.refusal.specs.Laws.{Silent, accepted-silent, lowest-here, lowest-next}
+use Rattle.refusal.specs.declared.Refusal.{Refusal}
+use Rattle.refusal.specs.declared.Outcome.{Outcome}
+use Rattle.refusal.specs.declared.Outcome.the-variants.{Accepted, Refused}
+use Rattle.frame.specs.Input.{within, sizeOut, lengthOut, thresholdOut, firstOver, sampleOut, pixelOut, frameRows, pixelRows}
+
+-- ---- tests taken apart
+
+both : (a b : Bool) → a && b ≡ true → (a ≡ true) × (b ≡ true)
+both true b e = (refl, e)
+both false b e = let z : _≡_ {A = Bool} false true = e in (cc, cc)
+
+neither : (a b : Bool) → a || b ≡ false → (a ≡ false) × (b ≡ false)
+neither true b e = let z : _≡_ {A = Bool} true false = e in (cc, cc)
+neither false b e = (refl, e)
+
+pub within-says : (least most x : ℕ) → within least most x ≡ true → (least ≤ x) × (x ≤ most)
+within-says least most x e =
+    let t = both (leb least x) (leb x most) e in
+    (leb-true least x (t .0), leb-true x most (t .1))
+
+-- ---- the first sample that is too large
+
+-- one step of a look from the front, by what is left of the list
+pub here : (l : List ℕ) (i : ℕ) → i < length l → 4095 < getD l i 0 → firstOver (drop i l) ≡ 0
+unfolding firstOver
+here l i h g = rw (drop-cons l i 0 h, lt-ltb 4095 (getD l i 0) g)
+
+pub further : (l : List ℕ) (i : ℕ) → i < length l → getD l i 0 ≤ 4095 → firstOver (drop i l) ≡ suc (firstOver (drop (i + 1) l))
+unfolding firstOver
+further l i h g = rw (add-one, drop-cons l i 0 h, le-ltb 4095 (getD l i 0) g)
+
+pub ended : (l : List ℕ) (i : ℕ) → length l ≤ i → firstOver (drop i l) ≡ 0
+unfolding firstOver
+ended l i h = rw (drop-of-length-le l h)
+
+-- it is above 4,095, and none before it is
+pub first-over : (l : List ℕ) → firstOver l < length l → (4095 < getD l (firstOver l) 0) × ((k : ℕ) → k < firstOver l → getD l k 0 ≤ 4095)
+unfolding firstOver
+first-over [] h = absurd (not-suc-le-zero h)
+first-over (x ∷ xs) h = go (ltb 4095 x) refl (first-over xs) h
+  where
+    go : (b : Bool) → ltb 4095 x ≡ b
+        → (firstOver xs < length xs → (4095 < getD xs (firstOver xs) 0) × ((k : ℕ) → k < firstOver xs → getD xs k 0 ≤ 4095))
+        → cond b 0 (suc (firstOver xs)) < suc (length xs)
+        → (4095 < getD (x ∷ xs) (cond b 0 (suc (firstOver xs))) 0) × ((k : ℕ) → k < cond b 0 (suc (firstOver xs)) → getD (x ∷ xs) k 0 ≤ 4095)
+    go true e i h = (ltb-true 4095 x e, λ k l. absurd (not-suc-le-zero l))
+    go false e i h =
+        let r = i (omega arith) in
+        (r .0, step (ltb-false 4095 x e) (r .1))
+      where
+        step : x ≤ 4095 → ((k : ℕ) → k < firstOver xs → getD xs k 0 ≤ 4095) → (k : ℕ) → k < suc (firstOver xs) → getD (x ∷ xs) k 0 ≤ 4095
+        step p f zero l = p
+        step p f (suc k) l = f k (omega arith)
+
+-- and if any is above 4,095, there is a first one
+pub over-first : (l : List ℕ) (k : ℕ) → k < length l → 4095 < getD l k 0 → firstOver l ≤ k
+unfolding firstOver
+over-first [] k h g = absurd (not-suc-le-zero h)
+over-first (x ∷ xs) zero h g = rw (lt-ltb 4095 x g) (omega arith)
+over-first (x ∷ xs) (suc k) h g = go (ltb 4095 x) (over-first xs k (omega arith) g)
+  where
+    go : (b : Bool) → firstOver xs ≤ k → cond b 0 (suc (firstOver xs)) ≤ suc k
+    go true i = omega arith
+    go false i = omega arith
+
+-- ---- an accepted call
+
+-- the inputs of a frame, as document 01 has them
+pub record Valid (samples : List ℕ) (width height threshold : ℕ) : Type 0 where
+  pub wide : (7 ≤ width) × (width ≤ 1024)
+  pub high : (7 ≤ height) × (height ≤ 1024)
+  pub whole : length samples ≡ height * width
+  pub reached : (1 ≤ threshold) × (threshold ≤ 4095)
+  pub small : length samples ≤ firstOver samples
+
+module _ (samples : List ℕ) (width height threshold : ℕ) where
+  valid : sizeOut width height ≡ false → lengthOut samples width height ≡ false → thresholdOut threshold ≡ false → sampleOut samples ≡ false → Valid samples width height threshold
+  valid p q r s =
+      let a = neither (not (within 7 1024 width)) (not (within 7 1024 height)) p in
+      record {
+        wide = within-says 7 1024 width (not-false _ (a .0));
+        high = within-says 7 1024 height (not-false _ (a .1));
+        whole = eqb-true (length samples) (width * height) (not-false _ q) ∙ mul-comm width height;
+        reached = within-says 1 4095 threshold (not-false _ r);
+        small = ltb-false (firstOver samples) (length samples) s;
+      }
+
+  pub accepted-valid : lowest (frameRows samples width height threshold) ≡ Accepted → Valid samples width height threshold
+  unfolding Silent
+  accepted-valid e =
+      let s = accepted-silent (frameRows samples width height threshold) e in
+      valid (s .0) (s .1 .0) (s .1 .1 .0) (s .1 .1 .1 .0)
+
+  -- with a pixel that lies in the frame
+  pub accepted-pixel : (r c : ℕ) → lowest (pixelRows samples width height threshold r c) ≡ Accepted → Valid samples width height threshold × (r < height) × (c < width)
+  unfolding Silent
+  accepted-pixel r c e =
+      let s = accepted-silent (pixelRows samples width height threshold r c) e in
+      let a = neither (leb height r) (leb width c) (s .1 .1 .1 .1 .0) in
+      (valid (s .0) (s .1 .0) (s .1 .1 .0) (s .1 .1 .1 .0), leb-false height r (a .0), leb-false width c (a .1))
+
+-- ---- rows of two lists, one after the other
+
+pub lowest-first : (xs ys : List Row) (r : Refusal) → lowest xs ≡ Refused r → lowest (xs ++ ys) ≡ Refused r
+unfolding lowest
+lowest-first [] ys r e = let z : _≡_ {A = ℕ} 0 1 = cc in absurd (omega arith)
+lowest-first (x ∷ xs) ys r e = go (x .applies) (lowest-first xs ys r) e
+  where
+    go : (b : Bool) → (lowest xs ≡ Refused r → lowest (xs ++ ys) ≡ Refused r) → cond b (refusalOf (x .number) (x .place)) (lowest xs) ≡ Refused r
+        → cond b (refusalOf (x .number) (x .place)) (lowest (xs ++ ys)) ≡ Refused r
+    go true f e = e
+    go false f e = f e
+
+pub lowest-then : (xs ys : List Row) → lowest xs ≡ Accepted → lowest (xs ++ ys) ≡ lowest ys
+unfolding lowest
+lowest-then [] ys e = refl
+lowest-then (x ∷ xs) ys e = go (x .applies) (lowest-then xs ys) e
+  where
+    go : (b : Bool) → (lowest xs ≡ Accepted → lowest (xs ++ ys) ≡ lowest ys) → cond b (refusalOf (x .number) (x .place)) (lowest xs) ≡ Accepted
+        → cond b (refusalOf (x .number) (x .place)) (lowest (xs ++ ys)) ≡ lowest ys
+    go true f e = let z : _≡_ {A = ℕ} 0 1 = cc in absurd (omega arith)
+    go false f e = f e
+
+module _ (samples : List ℕ) (width height threshold r c : ℕ) where
+  pub pixel-refused : (f : Refusal) → lowest (frameRows samples width height threshold) ≡ Refused f → lowest (pixelRows samples width height threshold r c) ≡ Refused f
+  pixel-refused f e = lowest-first (frameRows samples width height threshold) _ f e
+
+  pub pixel-outside : lowest (frameRows samples width height threshold) ≡ Accepted → pixelOut width height r c ≡ true
+      → lowest (pixelRows samples width height threshold r c) ≡ refusalOf numbers.pixel 0
+  pixel-outside e t = lowest-then (frameRows samples width height threshold) _ e ∙ lowest-here (row (pixelOut width height r c) numbers.pixel) [] t
+
+  pub pixel-inside : lowest (frameRows samples width height threshold) ≡ Accepted → pixelOut width height r c ≡ false
+      → lowest (pixelRows samples width height threshold r c) ≡ Accepted
+  unfolding lowest
+  pixel-inside e t = lowest-then (frameRows samples width height threshold) (row (pixelOut width height r c) numbers.pixel ∷ []) e ∙ lowest-next (row (pixelOut width height r c) numbers.pixel) [] t

@@ -1,0 +1,80 @@
+// What a call on a frame asks of its inputs: refusals 1 to 4, and 15 for one pixel. The order of the tests is the order of the numbers.
+ghost use mathlib.Core.Path.{_≡_};
+ghost use Rattle.refusal.specs.Table.{lowest};
+ghost use Rattle.frame.specs.Input.{within, firstOver, frameRows, pixelRows};
+use refusal::Outcome;
+
+// The largest sample.
+const LARGEST: u16 = 4095;
+
+fn is_within(x: usize, least: usize, most: usize) -> bool
+    ensures { λ r. ⌜ r ≡ within least most x ⌝ }
+{
+    if x < least {
+        return false;
+    }
+    x <= most
+}
+
+// The place of the first sample that is too large, or the number of samples.
+fn first_over(samples: &[u16]) -> usize
+    ensures { λ r. ⌜ r ≡ firstOver (now (samples .entry)) ⌝ }
+{
+    let mut i: usize = 0;
+    while i < samples.len() {
+        if LARGEST < samples[i] {
+            return i;
+        }
+        i += 1;
+    }
+    i
+}
+
+// Width and height are tested before their product is formed, so it cannot overflow.
+pub fn frame_outcome(samples: &[u16], width: usize, height: usize, threshold: usize) -> Outcome
+    ensures { λ r. ⌜ r ≡ lowest (frameRows (now (samples .entry)) width height threshold) ⌝ }
+{
+    if !is_within(width, 7, 1024) {
+        return refusal::plain(refusal::SIZE);
+    }
+    if !is_within(height, 7, 1024) {
+        return refusal::plain(refusal::SIZE);
+    }
+    if samples.len() != width * height {
+        return refusal::plain(refusal::SAMPLES);
+    }
+    if !is_within(threshold, 1, 4095) {
+        return refusal::plain(refusal::THRESHOLD);
+    }
+    let place = first_over(samples);
+    if place < samples.len() {
+        return refusal::at(refusal::SAMPLE, place);
+    }
+    Outcome::Accepted
+}
+
+// The same for a call that names a pixel.
+pub fn pixel_outcome(
+    samples: &[u16],
+    width: usize,
+    height: usize,
+    threshold: usize,
+    row: usize,
+    column: usize,
+) -> Outcome
+    ensures { λ r. ⌜ r ≡ lowest (pixelRows (now (samples .entry)) width height threshold row column) ⌝ }
+{
+    let outcome = frame_outcome(samples, width, height, threshold);
+    match outcome {
+        Outcome::Refused(_) => outcome,
+        Outcome::Accepted => {
+            if height <= row {
+                return refusal::plain(refusal::PIXEL);
+            }
+            if width <= column {
+                return refusal::plain(refusal::PIXEL);
+            }
+            outcome
+        }
+    }
+}
