@@ -43,14 +43,10 @@ pub fn judge(
     let outcome = check::pixel_outcome(samples, width, height, threshold, row, column);
     match outcome {
         Outcome::Refused(refusal) => Judgement::Refused(refusal),
-        Outcome::Accepted => Judgement::Judged(verdict::verdict_at(
-            samples,
-            width,
-            height,
-            threshold,
-            row,
-            column,
-        )),
+        Outcome::Accepted => {
+            let judged = verdict::verdict_at(samples, width, height, threshold, row, column);
+            Judgement::Judged(judged)
+        }
     }
 }
 
