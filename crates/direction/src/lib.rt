@@ -42,6 +42,7 @@ pub fn settings_ok(cx: i64, cy: i64, focal: i64) -> bool
     settings::focal_ok(focal)
 }
 
+// Refusal 5, for settings and for a position alike.
 fn refused() -> Direction
     ensures { λ r. ⌜ r ≡ Rattle.direction.specs.Direction.outOfRange ⌝ }
 {
