@@ -1,6 +1,7 @@
 // The matrix of two sides: an entry for each component of the camera and each of the sky.
 use super::Matrix;
-use super::side::{Axes, ONE};
+use super::side::Axes;
+use super::side::ONE;
 use vectors::Vec3;
 ghost use mathlib.Core.Path.{_≡_};
 ghost use Rattle.numbers.specs.Within.{Within};

@@ -7,7 +7,7 @@ use Rattle.attitude.specs.declared.Matrix.{Matrix}
 use Rattle.attitude.specs.declared.Attitude.{Attitude}
 use Rattle.attitude.specs.declared.Attitude.the-variants.{Found}
 use Rattle.attitude.specs.Scale.{largestOf}
-use Rattle.attitude.specs.Entries.{productOf}
+use Rattle.attitude.specs.Entries.{AxesWithin, productOf}
 use Rattle.attitude.specs.Attitude.{matrixOf, attitudeOf, answerOf, answerFor}
 use Rattle.attitude.specs.Bounds.{axes-within}
 use Rattle.attitude.specs.Laws.{InRange, answers, by-refusal, by-acceptance, acceptable}
@@ -42,15 +42,17 @@ enum-told : tie.Need-enum-told
 enum-told c = search needs
 
 axes-of-requires : tie.Need-axes-of-requires
-axes-of-requires c κs = (left c .0 .v1, (left c .0 .v2, left c .1 .0))
+axes-of-requires c κs = let o = left c in search needs
 
 axes-of-requires-2 : tie.Need-axes-of-requires-2
-axes-of-requires-2 c κs = let o = left (c .before) in (o .0 .w1, (o .0 .w2, o .1 .1))
+axes-of-requires-2 c κs = let o = left (c .before) in search needs
 
 product-requires : tie.Need-product-requires
 product-requires c κs =
     let o = left (c .before .before) .0 in
-    (rw (c .before .axes-of .ensures) (axes-within _ _ (o .v1)), rw (c .axes-of2 .ensures) (axes-within _ _ (o .w1)))
+    let camera : AxesWithin (c .before .axes-of .result) = rw (c .before .axes-of .ensures) (axes-within _ _ (o .v1)) in
+    let sky : AxesWithin (c .axes-of2 .result) = rw (c .axes-of2 .ensures) (axes-within _ _ (o .w1)) in
+    search needs
 
 returns : tie.Need-returns
 returns c =

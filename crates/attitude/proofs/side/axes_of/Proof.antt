@@ -35,7 +35,10 @@ unit-requires c κs =
     rw (reduced-is c) (reduced-within _ (C-within s), reduced-large _ (C-within s) (s .pre .1 .1))
 
 cross-requires-2 : tie.Need-cross-requires-2
-cross-requires-2 c κs = (c .before .before .before .pre .0, rw (unit-is c) (unit-within _))
+cross-requires-2 c κs =
+    let v = c .before .before .before .pre .0 in
+    let t2 : Within3 1000000000 (c .unit .result) = rw (unit-is c) (unit-within _) in
+    search needs
 
 over-requires : tie.Need-over-requires
 over-requires c κs = search needs

@@ -1,4 +1,4 @@
--- `attitude::tested` meets its contract: the tests stand in the order of the rows. Assumes nothing.
+-- `attitude::refusals::tested` meets its contract: the tests stand in the order of the rows. Assumes nothing.
 use borrow.Author.Needs.{needs}
 use mathlib.Core.Bool.{Bool, true, false, _||_}
 use mathlib.Core.Path.{_≡_, sym, _∙_}
@@ -7,9 +7,9 @@ use Rattle.refusal.specs.declared.Outcome.{Outcome}
 use Rattle.refusal.specs.declared.Outcome.the-variants.{Accepted}
 use Rattle.refusal.specs.Table.{refusalOf, lowest}
 use Rattle.attitude.specs.Attitude.{beyond, tooClose, refusalsOf}
-use Rattle.attitude.specs.Laws.{pair-in-range}
-use Rattle.attitude.proofs.tested.Statement.{statement}
-use Rattle.attitude.proofs.tested.Tie as tie
+use Rattle.attitude.specs.Laws.{InRange, pair-in-range}
+use Rattle.attitude.proofs.refusals.tested.Statement.{statement}
+use Rattle.attitude.proofs.refusals.tested.Tie as tie
 
 -- ---- the first row that applies, where each condition is one of the camera's side and one of the sky's
 
@@ -57,6 +57,13 @@ camera-in c = sym (c .before .out-of-range .ensures) ∙ c .if1 .left
 sky-in : (c : tie.Else2) → sky-out (c .before .before .before .before) ≡ false
 sky-in c = sym (c .before .out-of-range2 .ensures) ∙ c .if2 .left
 
+both-in : (c : tie.Else2) → let s = c .before .before .before .before in InRange (s .args .v1) (s .args .v2) (s .args .w1) (s .args .w2)
+both-in c =
+    let s = c .before .before .before .before in
+    let v = pair-in-range (s .args .v1) (s .args .v2) .0 (camera-in (c .before .before)) in
+    let w = pair-in-range (s .args .w1) (s .args .w2) .0 (sky-in c) in
+    record { v1 = v .0; v2 = v .1; w1 = w .0; w2 = w .1 }
+
 camera-apart : (c : tie.Else3) → camera-close (c .before .before .before .before .before .before) ≡ false
 camera-apart c = sym (c .before .too-close .ensures) ∙ c .if3 .left
 
@@ -83,7 +90,7 @@ returns-2 c =
     c .plain2 .ensures ∙ by-sky-out (o .before .before .before) (camera-in (o .before)) (sym (o .out-of-range2 .ensures) ∙ c .before .if2 .taken)
 
 too-close-requires : tie.Need-too-close-requires
-too-close-requires c κs = let s = c .before .before .before .before in pair-in-range (s .args .v1) (s .args .v2) .0 (camera-in (c .before .before))
+too-close-requires c κs = let h = both-in c in search needs
 
 plain-requires-3 : tie.Need-plain-requires-3
 plain-requires-3 c κs = search needs
@@ -95,10 +102,7 @@ returns-3 c =
     c .plain3 .ensures ∙ by-camera-close (e .before .before .before .before) (camera-in (e .before .before)) (sky-in e) (sym (o .too-close .ensures) ∙ c .before .if3 .taken)
 
 too-close-requires-2 : tie.Need-too-close-requires-2
-too-close-requires-2 c κs =
-    let e = c .before .before in
-    let s = e .before .before .before .before in
-    pair-in-range (s .args .w1) (s .args .w2) .0 (sky-in e)
+too-close-requires-2 c κs = let h = both-in (c .before .before) in search needs
 
 plain-requires-4 : tie.Need-plain-requires-4
 plain-requires-4 c κs = search needs

@@ -1,4 +1,4 @@
--- `attitude::out_of_range` meets its contract. Assumes nothing.
+-- `attitude::refusals::out_of_range` meets its contract. Assumes nothing.
 use borrow.Author.Needs.{needs}
 use borrow.Author.Tests.{lt-ltb, le-ltb}
 use mathlib.Core.Bool.{_||_}
@@ -8,8 +8,8 @@ use lib.Dec.{ltb}
 use Rattle.vectors.specs.declared.Vec3.{Vec3}
 use Rattle.attitude.specs.Scale.{largestOf}
 use Rattle.attitude.specs.Attitude.{beyond}
-use Rattle.attitude.proofs.out_of_range.Statement.{statement}
-use Rattle.attitude.proofs.out_of_range.Tie as tie
+use Rattle.attitude.proofs.refusals.out_of_range.Statement.{statement}
+use Rattle.attitude.proofs.refusals.out_of_range.Tie as tie
 
 -- the first test settles it, or leaves it to the second
 first : {a : ℕ} (v w : Vec3) → a ≡ largestOf v → 1000000000 < a → ltb 1000000000 a ≡ (beyond v || beyond w)

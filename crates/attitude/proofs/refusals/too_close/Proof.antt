@@ -1,12 +1,12 @@
--- `attitude::too_close` meets its contract. Assumes nothing.
+-- `attitude::refusals::too_close` meets its contract. Assumes nothing.
 use borrow.Author.Needs.{needs}
 use mathlib.Core.Path.{ap, _∙_}
 use Prim.Native.Nat.{ℕ, _^_}
 use lib.Dec.{ltb}
 use Rattle.vectors.specs.declared.Vec3.{Vec3}
 use Rattle.attitude.specs.Scale.{largestOf}
-use Rattle.attitude.proofs.too_close.Statement.{statement}
-use Rattle.attitude.proofs.too_close.Tie as tie
+use Rattle.attitude.proofs.refusals.too_close.Statement.{statement}
+use Rattle.attitude.proofs.refusals.too_close.Tie as tie
 
 cross-requires : tie.Need-cross-requires
 cross-requires c κs = search needs
