@@ -1,31 +1,41 @@
--- The promise of the search pins its answer: whatever is `Identified` is the computed `identificationOf`. Assumes nothing.
+-- Answers that meet the search's promise, and that the promise pins the answer: whatever is `Identified` is the computed `identificationOf`.
+-- Assumes nothing.
 use mathlib.Core.Path.{_≡_, refl, sym, _∙_, ap, subst}
-use mathlib.Core.Bool.{Bool, true, false, not}
+use mathlib.Core.Bool.{Bool, true, false, cond}
 use mathlib.Core.List.{List, [], _∷_}
-use mathlib.Core.Logic.{_⊎_, ⊎-elim}
+use mathlib.Core.Logic.{inl, inr, ⊎-elim}
 use Prim.Native.Nat.{ℕ, zero, suc, _≤_, _<_}
 use native.Mathlib.Omega.{arith}
 use lib.IntN.{ℤ}
-use lib.ListN.{length, getD}
+use lib.ListN.{length, getD, replicate}
 use lib.Seq.{ext-getD}
 use Rattle.refusal.specs.declared.Refusal.{Refusal}
 use Rattle.refusal.specs.declared.Outcome.{Outcome}
 use Rattle.refusal.specs.declared.Outcome.the-variants.{Accepted, Refused}
-use Rattle.refusal.specs.Table.{lowest, answered}
+use Rattle.refusal.specs.Table.{Row, lowest, answered}
 use Rattle.assignment.specs.Order.{Ranked, FirstOf, Same, at}
 use Rattle.assignment.specs.Problem.{Problem, order, Passing}
-use Rattle.assignment.specs.Run.{Answer, nothing, fit, isFit, words, firstFit}
+use Rattle.assignment.specs.Run.{nothing, fit, isFit, words, firstFit}
+use Rattle.assignment.specs.Run as computed
 use Rattle.assignment.proofs.Tests.{never, le-or-lt}
 use Rattle.assignment.proofs.Run as run
+use Rattle.direction.specs.ListLaws.{directionsIn, ok-directions}
+use Rattle.catalogue.specs.Format.{recordsIn}
 use Rattle.catalogue.specs.Stars.{starsOf}
+use Rattle.catalogue.specs.Valid.{Valid}
+use Rattle.catalogue.specs.CheckLaws.{accepted-valid}
+use Rattle.catalogue.specs.ValidStars.{valid-length, valid-within}
 use Rattle.search.specs.declared.Setup.{Setup}
+use Rattle.search.specs.declared.Answer.{Answer}
 use Rattle.search.specs.declared.Identification.{Identification}
 use Rattle.search.specs.Once.{rankingOf}
-use Rattle.search.specs.Fit.{problem}
+use Rattle.search.specs.Fit.{setupOf, FitsHere, problem, Input, FirstFit}
 use Rattle.search.specs.Refusals.{refusalsOf}
-use Rattle.search.specs.Identified.{refusedWith, noFit, accepted, setupFor, Searched, Identified, padTo, foundOf, identificationOf}
+use Rattle.search.specs.Identified.{refusedWith, noFit, accepted, setupFor, Searched, answerOf, Identified, padTo, foundOf, identificationOf}
 use Rattle.search.proofs.Rules.{problem-local, first-passes}
-use Rattle.search.proofs.Refused.{accepted-ranked}
+use Rattle.search.proofs.Words.{zeros-at}
+use Rattle.search.proofs.Once.{good-ranked}
+use Rattle.search.proofs.Rejected.{Asked, all-accepted, accepted-ranked}
 
 -- ---- words with zeros behind them
 
@@ -44,6 +54,19 @@ pad-at (suc n) (x ∷ xs) zero l = refl
 pad-at (suc n) (x ∷ xs) (suc k) l = pad-at n xs k (omega arith)
 
 -- ---- the answer of a search
+
+first-searched : (s : Setup) (ws : List ℕ) (directions stars : List ℤ) (a : Answer) → FirstFit s ws directions stars a → Searched s ws directions stars (answerOf a)
+first-searched s ws directions stars a f = by (a .found) refl
+  where
+    by : (b : Bool) → a .found ≡ b → Searched s ws directions stars (cond b (record { outcome = Accepted; stars = a .stars }) (refusedWith noFit))
+    by true e = record { settled = inl refl; first = subst (λ (b : Bool). FirstOf (rankingOf (s .dirs) (s .stars) ws) (FitsHere s directions stars) b (a .stars)) e (f .first); rest = f .rest e; size = f .size }
+    by false e =
+        record {
+          settled = inr refl;
+          first = record { fits = λ h. never h; first = λ h. never h; none = λ _. f .first .none e };
+          rest = λ k l. zeros-at 8 k;
+          size = refl;
+        }
 
 module _ (s : Setup) (ws : List ℕ) (directions stars : List ℤ) (R : Ranked (rankingOf (s .dirs) (s .stars) ws)) (r : Identification) (S : Searched s ws directions stars r) where
   abbrev p : Problem
@@ -75,11 +98,55 @@ module _ (s : Setup) (ws : List ℕ) (directions stars : List ℤ) (R : Ranked (
   pub searched-found : r ≡ foundOf (firstFit p)
   searched-found = by (firstFit p) refl
     where
-      by : (a : Answer) → firstFit p ≡ a → r ≡ foundOf a
+      by : (a : computed.Answer) → firstFit p ≡ a → r ≡ foundOf a
       by nothing e = none-found (ap isFit e)
-      by (fit xs) e = λ i. record { outcome = is-accepted (ap isFit e) i; stars = (padded (ap isFit e) ∙ ap (λ (a : Answer). padTo 8 (words a)) e) i }
+      by (fit xs) e = λ i. record { outcome = is-accepted (ap isFit e) i; stars = (padded (ap isFit e) ∙ ap (λ (a : computed.Answer). padTo 8 (words a)) e) i }
 
 -- ---- every call
+
+module _ (directions : List ℤ) (bytes : List ℕ) (needed tolerance : ℕ) (ws : List ℕ) where
+  abbrev rows : List Row
+  rows = refusalsOf directions bytes needed tolerance ws
+
+  apart : {A : Type 0} (q : Refusal) → lowest rows ≡ Refused q → lowest rows ≡ Accepted → A
+  apart q e h = let z : _≡_ {A = ℕ} 0 1 = cc in absurd (omega arith)
+
+  pub refused-identified : (q : Refusal) → lowest rows ≡ Refused q → Identified directions bytes needed tolerance ws (refusedWith q)
+  refused-identified q e = record { refused = λ p h i. record { outcome = (sym e ∙ h) i; stars = replicate 8 0 }; searched = λ h. apart q e h }
+
+  -- what the search is handed where none of 6 to 12 applies
+  module _ (e : lowest rows ≡ Accepted) where
+    pub valid : Valid bytes
+    valid = accepted-valid bytes (all-accepted directions bytes needed tolerance ws e .0)
+
+    abbrev asked : Asked directions (recordsIn bytes) needed tolerance ws
+    asked = all-accepted directions bytes needed tolerance ws e .1
+
+    same-setup : setupOf directions (starsOf bytes) needed tolerance ≡ setupFor directions bytes needed tolerance
+    same-setup = ap (λ (n : ℕ). record { dirs = directionsIn directions; stars = n; needed = needed; tolerance = tolerance }) (omega (arith, valid-length bytes valid))
+
+    pub handed : Input (setupOf directions (starsOf bytes) needed tolerance) ws directions (starsOf bytes)
+    handed =
+        let d = ok-directions directions (asked .list) in
+        let g = good-ranked ws (directionsIn directions) (recordsIn bytes) (asked .good) in
+        subst (λ (s : Setup). Input s ws directions (starsOf bytes)) (sym same-setup)
+        (record {
+          few = d .most;
+          many = valid .size .most;
+          long-directions = omega (arith, d .threes);
+          long-stars = omega (arith, valid-length bytes valid);
+          near-directions = d .within;
+          near-stars = valid-within bytes valid;
+          size = g .0;
+          ranked = g .1;
+        })
+
+    pub searched-identified : (a : Answer) → FirstFit (setupOf directions (starsOf bytes) needed tolerance) ws directions (starsOf bytes) a → Identified directions bytes needed tolerance ws (answerOf a)
+    searched-identified a f =
+        record {
+          refused = λ q h. apart q h e;
+          searched = λ _. first-searched (setupFor directions bytes needed tolerance) ws directions (starsOf bytes) a (subst (λ (s : Setup). FirstFit s ws directions (starsOf bytes) a) same-setup f);
+        }
 
 pub identified : (directions : List ℤ) (bytes : List ℕ) (needed tolerance : ℕ) (ws : List ℕ) (r : Identification) → Identified directions bytes needed tolerance ws r → r ≡ identificationOf directions bytes needed tolerance ws
 unfolding identificationOf

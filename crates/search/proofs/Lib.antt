@@ -4,5 +4,5 @@ pub mod Rows
 pub mod Once
 pub mod Seen
 pub mod Rules
-pub mod Refused
+pub mod Rejected
 pub mod Answers

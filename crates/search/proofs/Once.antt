@@ -80,24 +80,24 @@ module _ (words : List ℕ) (dirs stars : ℕ) where
       let w = first-is (clash words stars (i * stars)) stars in
       let le : i * stars + k < dirs * stars = omega (arith, row-fits i dirs stars li) in
       let p : i * stars + k ≡ first (clashAt words stars) (dirs * stars) =
-          first-of (clashAt words stars) (dirs * stars)
-          (record {
-            most = omega arith;
-            none = λ q l. ⊎-elim
-                (λ (a : i * stars ≤ q).
-                let s : q ≡ i * stars + (q - i * stars) = omega arith in
-                ap (clashAt words stars) s ∙ at-row words stars i (q - i * stars) (omega arith) ∙ w .none (q - i * stars) (omega arith))
-                (λ (a : q < i * stars). h q a)
-                (le-or-lt (i * stars) q);
-            taken = λ _. at-row words stars i k lk ∙ ap (clash words stars (i * stars)) f ∙ w .taken (omega arith);
-          }) in
+      first-of (clashAt words stars) (dirs * stars)
+      (record {
+        most = omega arith;
+        none = λ q l. ⊎-elim
+            (λ (a : i * stars ≤ q).
+            let s : q ≡ i * stars + (q - i * stars) = omega arith in
+            ap (clashAt words stars) s ∙ at-row words stars i (q - i * stars) (omega arith) ∙ w .none (q - i * stars) (omega arith))
+            (λ (a : q < i * stars). h q a)
+            (le-or-lt (i * stars) q);
+        taken = λ _. at-row words stars i k lk ∙ ap (clash words stars (i * stars)) f ∙ w .taken (omega arith);
+      }) in
       rw (eq-eqb (length words) (dirs * stars) e, ← p, lt-ltb (i * stars + k) (dirs * stars) le)
 
   pub all-good : length words ≡ dirs * stars → ((q : ℕ) → q < dirs * stars → clashAt words stars q ≡ false) → Good ≡ lentOf words dirs stars
   unfolding lentOf
   all-good e h =
       let p : dirs * stars ≡ first (clashAt words stars) (dirs * stars) =
-          first-of (clashAt words stars) (dirs * stars) (record { most = omega arith; none = h; taken = λ l. absurd (omega arith) }) in
+      first-of (clashAt words stars) (dirs * stars) (record { most = omega arith; none = h; taken = λ l. absurd (omega arith) }) in
       rw (eq-eqb (length words) (dirs * stars) e, ← p, le-ltb (dirs * stars) (dirs * stars) (omega arith))
 
   -- what a good ranking is: it has the length, and no word clashes
@@ -136,12 +136,14 @@ module _ (words : List ℕ) (dirs stars : ℕ) where
   -- the test accepts a ranking exactly if it is directions x stars long and each row names each star exactly once
   pub good-ranked : lentOf words dirs stars ≡ Good → (length words ≡ dirs * stars) × Ranked (rankingOf dirs stars words)
   good-ranked e =
-      let into = row-into (good-free e) in
-      (good-length e, record {
-        below = λ i k li lk. into i li .below k lk;
-        names = λ i s li ls. onto stars (word words (i * stars)) (into i li) s ls;
-        once = λ i k l li. into i li .once k l;
-      })
+      let into = row-into (good-free e) in (
+        good-length e,
+        record {
+          below = λ i k li lk. into i li .below k lk;
+          names = λ i s li ls. onto stars (word words (i * stars)) (into i li) s ls;
+          once = λ i k l li. into i li .once k l;
+        },
+      )
 
   pub ranked-good : length words ≡ dirs * stars → Ranked (rankingOf dirs stars words) → lentOf words dirs stars ≡ Good
   ranked-good e R = sym (all-good e (λ q l.

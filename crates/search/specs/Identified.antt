@@ -1,6 +1,6 @@
 -- What the search answers. `Identified` is its promise, on every input; `identificationOf` is the same answer, computed. Assumes nothing.
 use mathlib.Core.Path.{_≡_}
-use mathlib.Core.Bool.{Bool, true, false}
+use mathlib.Core.Bool.{Bool, true, false, cond}
 use mathlib.Core.List.{List, [], _∷_}
 use mathlib.Core.Logic.{_⊎_}
 use Prim.Native.Nat.{ℕ, zero, suc, _≤_}
@@ -17,6 +17,7 @@ use Rattle.catalogue.specs.Stars.{starsOf}
 use Rattle.assignment.specs.Order.{FirstOf, at}
 use Rattle.assignment.specs.Run as run
 use Rattle.search.specs.declared.Setup.{Setup}
+use Rattle.search.specs.declared.Answer.{Answer}
 use Rattle.search.specs.declared.Identification.{Identification}
 use Rattle.search.specs.Once.{rankingOf}
 use Rattle.search.specs.Fit.{FitsHere, problem}
@@ -43,6 +44,10 @@ pub record Searched (s : Setup) (words : List ℕ) (directions stars : List ℤ)
   pub first : FirstOf (rankingOf (s .dirs) (s .stars) words) (FitsHere s directions stars) (accepted (r .outcome)) (r .stars)
   pub rest : (k : ℕ) → s .dirs ≤ k → at (r .stars) k ≡ 0
   pub size : length (r .stars) ≡ 8
+
+-- the answer that a search's own comes to
+abbrev pub answerOf : Answer → Identification
+answerOf a = cond (a .found) (record { outcome = Accepted; stars = a .stars }) (refusedWith noFit)
 
 -- the lowest of 6 to 12 that applies is given; where none does, the search's own answer
 pub record Identified (directions : List ℤ) (bytes : List ℕ) (needed tolerance : ℕ) (words : List ℕ) (r : Identification) : Type 0 where

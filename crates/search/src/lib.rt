@@ -1,11 +1,13 @@
 // The search: which star each direction is, by a ranking that is handed in.
-mod lent;
-mod fit;
 mod backtrack;
+mod fit;
+mod lent;
+mod refused;
 
 use refusal::Outcome;
 ghost use mathlib.Core.Path.{_≡_};
 ghost use Rattle.search.specs.Fit.{setupOf, Input, FirstFit};
+ghost use Rattle.search.specs.Identified.{answerOf, Identified};
 
 // Whether a ranking that is handed in names each star once a row, or the place of its first word that does not belong.
 pub enum Judgement {
@@ -57,4 +59,48 @@ pub fn first_fit(
         tolerance: tolerance,
     };
     backtrack::place(ranking, directions, stars, setup, [0u16; 8], 0, 0)
+}
+
+// The words of an assignment that was found, or refusal 13.
+fn settled(answer: Answer) -> Identification
+    ensures { λ r. ⌜ r ≡ answerOf answer ⌝ }
+{
+    let words = answer.stars;
+    if answer.found {
+        Identification {
+            outcome: Outcome::Accepted,
+            stars: words,
+        }
+    } else {
+        Identification {
+            outcome: refusal::plain(refusal::NO_FIT),
+            stars: [0u16; 8],
+        }
+    }
+}
+
+// Which star each direction is: the first assignment in the ranking's order that fits. Refused with the lowest of 6 to 12 that applies, and
+// with 13 where no assignment fits.
+pub fn search(
+    directions: &[i32],
+    catalogue: &[u8],
+    needed: usize,
+    tolerance: u64,
+    ranking: &[u16],
+) -> Identification
+    ensures { λ r. ⌜ Identified (now (directions .entry)) (now (catalogue .entry)) needed tolerance (now (ranking .entry)) r ⌝ }
+{
+    let outcome = refused::lowest(directions, catalogue, needed, tolerance, ranking);
+    match outcome {
+        Outcome::Refused(r) => Identification {
+            outcome: Outcome::Refused(r),
+            stars: [0u16; 8],
+        },
+        Outcome::Accepted => {
+            let numbers = catalogue::stars(catalogue);
+            let end = 3 * catalogue::records(catalogue);
+            let answer = first_fit(ranking, directions, &numbers[..end], needed, tolerance);
+            settled(answer)
+        }
+    }
 }

@@ -7,10 +7,11 @@ use native.Mathlib.Omega.{arith}
 use lib.IntN.{ℤ}
 use lib.ListN.{length}
 use lib.Dec.{leb, ltb}
-use borrow.Author.Tests.{leb-true, ltb-false, not-false}
+use borrow.Author.Tests.{lt-ltb, le-ltb, ltb-false, not-false}
 use Rattle.refusal.specs.declared.Refusal.{Refusal}
 use Rattle.refusal.specs.declared.Outcome.{Outcome}
 use Rattle.refusal.specs.declared.Outcome.the-variants.{Accepted, Refused}
+use Rattle.refusal.specs.Numbers as number
 use Rattle.refusal.specs.Table.{Row, refusalOf, lowest, answered}
 use Rattle.refusal.specs.Laws.{Silent, accepted-silent, lowest-here, lowest-next}
 use Rattle.assignment.specs.Order.{Ranked}
@@ -47,6 +48,30 @@ pub record Asked (directions : List ℤ) (stars needed tolerance : ℕ) (words :
   pub enough : needed ≤ directionsIn directions
 
 module _ (directions : List ℤ) (stars needed tolerance : ℕ) (words : List ℕ) where
+  -- the rows one after the other
+  pub not-listed : listOk directions ≡ false → lowest (rowsBeside directions stars needed tolerance words) ≡ refusalOf number.directions 0
+  unfolding rowsBeside lowest
+  not-listed e = rw e
+
+  module _ (listed : listOk directions ≡ true) where
+    pub not-in-range : demandOk needed tolerance ≡ false → lowest (rowsBeside directions stars needed tolerance words) ≡ refusalOf number.demand 0
+    unfolding rowsBeside lowest
+    not-in-range e = rw (listed, e)
+
+    module _ (demand : demandOk needed tolerance ≡ true) where
+      pub not-once : (q : ℕ) → lentOf words (directionsIn directions) stars ≡ Bad q → lowest (rowsBeside directions stars needed tolerance words) ≡ refusalOf number.ranking q
+      unfolding rowsBeside lowest
+      not-once q e = rw (listed, demand, e)
+
+      module _ (good : lentOf words (directionsIn directions) stars ≡ Good) where
+        pub too-few : directionsIn directions < needed → lowest (rowsBeside directions stars needed tolerance words) ≡ refusalOf number.few 0
+        unfolding rowsBeside lowest
+        too-few l = rw (listed, demand, good, lt-ltb (directionsIn directions) needed l)
+
+        pub none-applies : needed ≤ directionsIn directions → lowest (rowsBeside directions stars needed tolerance words) ≡ Accepted
+        unfolding rowsBeside lowest
+        none-applies l = rw (listed, demand, good, le-ltb (directionsIn directions) needed l)
+
   pub beside-asked : lowest (rowsBeside directions stars needed tolerance words) ≡ Accepted → Asked directions stars needed tolerance words
   unfolding rowsBeside Silent
   beside-asked e =
@@ -59,6 +84,14 @@ module _ (directions : List ℤ) (stars needed tolerance : ℕ) (words : List �
       }
 
 module _ (directions : List ℤ) (bytes : List ℕ) (needed tolerance : ℕ) (words : List ℕ) where
+  pub catalogue-refused : (r : Refusal) → lowest (catalogue.refusalsOf bytes) ≡ Refused r → lowest (refusalsOf directions bytes needed tolerance words) ≡ Refused r
+  unfolding refusalsOf
+  catalogue-refused r e = lowest-joined (catalogue.refusalsOf bytes) _ ∙ ap (answered Refused (lowest (rowsBeside directions (recordsIn bytes) needed tolerance words))) e
+
+  pub catalogue-valid : lowest (catalogue.refusalsOf bytes) ≡ Accepted → lowest (refusalsOf directions bytes needed tolerance words) ≡ lowest (rowsBeside directions (recordsIn bytes) needed tolerance words)
+  unfolding refusalsOf
+  catalogue-valid e = lowest-joined (catalogue.refusalsOf bytes) _ ∙ ap (answered Refused (lowest (rowsBeside directions (recordsIn bytes) needed tolerance words))) e
+
   -- none of 6 to 12 applies: neither the catalogue's nor the rest
   pub all-accepted : lowest (refusalsOf directions bytes needed tolerance words) ≡ Accepted → (lowest (catalogue.refusalsOf bytes) ≡ Accepted) × Asked directions (recordsIn bytes) needed tolerance words
   unfolding refusalsOf
