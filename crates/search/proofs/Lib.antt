@@ -6,3 +6,4 @@ pub mod Seen
 pub mod Rules
 pub mod Rejected
 pub mod Answers
+pub mod Promise

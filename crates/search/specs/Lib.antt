@@ -3,3 +3,4 @@ pub mod Once
 pub mod Fit
 pub mod Refusals
 pub mod Identified
+pub mod Call
