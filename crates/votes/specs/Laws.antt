@@ -4,7 +4,7 @@ use mathlib.Core.Path.{_≡_, refl, sym, ap, _∙_}
 use mathlib.Core.List.{List, [], _∷_, _++_}
 use Prim.Native.Nat.{ℕ, zero, suc, _+_, _*_, _≤_, _<_}
 use native.Mathlib.Decide.{ℕ-discrete}
-use native.Mathlib.Nat.{not-suc-le-zero}
+use native.Mathlib.Nat.{not-suc-le-zero, le-trans}
 use native.Mathlib.Omega.{arith}
 use lib.Dec.{ltb, eqb}
 use lib.IntN.{ℤ, pos}
@@ -15,7 +15,7 @@ use Rattle.vectors.specs.Triples.{pairDot}
 use Rattle.vectors.specs.Laws.{pair-comm}
 use Rattle.vectors.specs.Agree.{agreeing}
 use Rattle.votes.specs.Counting.{one, number, pairs}
-use Rattle.votes.specs.CountingLaws.{number-next, number-most, number-same, number-none, pairs-next, pairs-most, pairs-same}
+use Rattle.votes.specs.CountingLaws.{number-next, number-most, number-same, number-none, number-but, pairs-but, pairs-next, pairs-most, pairs-same}
 use Rattle.votes.specs.Votes.{triples, other, isVote, votesOf, firsts, countersOf}
 
 -- direction j is another than i, and the product q of the two agrees with p
@@ -74,7 +74,7 @@ module _ (g : Setting) where
 
   pub from-most : (n a : ℕ) → g .count ≤ 8 → from n a ≤ 8 * n
   unfolding from
-  from-most n a h = pairs-most 8 (g .count) n (voteBy a) h
+  from-most n a h = pairs-most 8 (g .count) n (voteBy a) (λ b. le-trans (number-most (g .count) _) h)
 
   pub between-most : (a b : ℕ) → between a b ≤ g .count
   unfolding between
@@ -118,3 +118,18 @@ counter-within directions stars tolerance i a h most = firsts-at 512 _ a (omega 
 pub counter-beyond : (directions stars : List ℤ) (tolerance i a : ℕ) → triples stars ≤ a → a < 512 → getD (countersOf directions stars tolerance i) a 0 ≡ 0
 unfolding countersOf
 counter-beyond directions stars tolerance i a h most = firsts-at 512 _ a most ∙ rw (le-ltb a (triples stars) h)
+
+-- 7 other directions and 511 other stars
+pub votes-most : (directions stars : List ℤ) (tolerance i a : ℕ) → i < triples directions → triples directions ≤ 8 → a < triples stars → triples stars ≤ 512
+    → votesOf directions stars tolerance i a ≤ 7 * 511
+unfolding votesOf
+votes-most directions stars tolerance i a h m l n =
+    omega (
+      arith,
+      pairs-but 7 (triples directions) (triples stars) (isVote directions stars tolerance i a) a l
+          (λ b. below (number-but (triples directions) (λ j. isVote directions stars tolerance i a j b) i h (rw (eq-eqb i i refl))))
+          (number-none (triples directions) (λ j. isVote directions stars tolerance i a j a) (λ j k. rw (eq-eqb a a refl) (and-false (other j i)))),
+    )
+  where
+    below : {k : ℕ} → k < triples directions → k ≤ 7
+    below g = omega arith
