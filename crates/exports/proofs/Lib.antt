@@ -1,0 +1,2 @@
+-- Laws that the exported functions' proofs share. Assumes nothing.
+pub mod Handed

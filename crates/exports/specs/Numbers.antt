@@ -1,0 +1,28 @@
+-- The numbers of an answer: the refusal's number and place, or 0 and 0 and what the answer holds. Assumes nothing.
+use mathlib.Core.Bool.{cond}
+use mathlib.Core.List.{List, [], _∷_}
+use Prim.Native.Nat.{ℕ, _+_, _-_}
+use lib.ListN.{set}
+use lib.Dec.{ltb}
+use lib.IntN.{ℤ, pos, negsuc}
+use Rattle.refusal.specs.declared.Refusal.{Refusal}
+use Rattle.vectors.specs.declared.Vec3.{Vec3}
+use Rattle.exports.specs.Room.{padded}
+
+-- the signed number that has the 64 bits of n
+abbrev pub signedOf : ℕ → ℤ
+signedOf n = cond (ltb n 9223372036854775808) (pos n) (negsuc (18446744073709551615 - n))
+
+abbrev pub refusedNumbers : Refusal → List ℤ
+refusedNumbers r = padded (signedOf (r .number) ∷ (signedOf (r .place) ∷ []))
+
+-- a call that is accepted, with the answer's own numbers
+abbrev pub acceptedNumbers : List ℤ → List ℤ
+acceptedNumbers xs = padded (pos 0 ∷ (pos 0 ∷ xs))
+
+abbrev pub vectorNumbers : Vec3 → List ℤ
+vectorNumbers v = v .x ∷ (v .y ∷ (v .z ∷ []))
+
+-- the list with a vector's numbers from a place on
+abbrev pub withVector : List ℤ → ℕ → Vec3 → List ℤ
+withVector xs i v = set (set (set xs i (v .x)) (i + 1) (v .y)) (i + 2) (v .z)
