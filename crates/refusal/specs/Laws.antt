@@ -8,7 +8,7 @@ use native.Mathlib.Omega.{arith}
 use Rattle.refusal.specs.declared.Refusal.{Refusal}
 use Rattle.refusal.specs.declared.Outcome.{Outcome}
 use Rattle.refusal.specs.declared.Outcome.the-variants.{Accepted, Refused}
-use Rattle.refusal.specs.Table.{refusalOf, Row, rowAt, lowest}
+use Rattle.refusal.specs.Table.{refusalOf, Row, rowAt, lowest, otherwise}
 
 -- ---- one row at a time, as the code meets them
 
@@ -88,3 +88,21 @@ pub accepted-silent : (rows : List Row) → lowest rows ≡ Accepted → Silent 
 unfolding lowest Silent
 accepted-silent [] e = tt
 accepted-silent (r ∷ rs) e = by-silence (r .applies) (r .number) (r .place) rs (accepted-silent rs) e
+
+-- ---- rows behind rows: the first list's refusal, or the second's
+
+pub lowest-append : (xs ys : List Row) → lowest (xs ++ ys) ≡ otherwise (lowest xs) (lowest ys)
+unfolding lowest
+lowest-append [] ys = refl
+lowest-append (r ∷ rs) ys = by (r .applies) (lowest-append rs ys)
+  where
+    by : (c : Bool) → lowest (rs ++ ys) ≡ otherwise (lowest rs) (lowest ys) → cond c (refusalOf (r .number) (r .place)) (lowest (rs ++ ys)) ≡ otherwise (cond c (refusalOf (r .number) (r .place)) (lowest rs)) (lowest ys)
+    by true e = refl
+    by false e = e
+
+pub otherwise-accepted : (a b : Outcome) → otherwise a b ≡ Accepted → (a ≡ Accepted) × (b ≡ Accepted)
+otherwise-accepted Accepted b e = (refl, e)
+otherwise-accepted (Refused r) b e = let z : _≡_ {A = ℕ} 0 1 = cc in absurd (impossible z)
+  where
+    impossible : _≡_ {A = ℕ} 0 1 → ⊥
+    impossible z = omega arith

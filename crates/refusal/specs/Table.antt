@@ -32,3 +32,8 @@ lowest (r ∷ rs) = cond (r .applies) (refusalOf (r .number) (r .place)) (lowest
 abbrev pub answered : {A : Type 0} → (Refusal → A) → A → Outcome → A
 answered f a Accepted = a
 answered f a (Refused r) = f r
+
+-- the first of two outcomes that is a refusal
+abbrev pub otherwise : Outcome → Outcome → Outcome
+otherwise Accepted b = b
+otherwise (Refused r) b = Refused r

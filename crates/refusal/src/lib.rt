@@ -1,6 +1,7 @@
 // Number and place of a refusal: document 01's table. A later number is one constant here, one in specs/Numbers, and a row where it is given.
 ghost use mathlib.Core.Path.{_≡_};
 ghost use Rattle.refusal.specs.Table.{refusalOf};
+ghost use Rattle.refusal.specs.Table.{otherwise as firstRefusal};
 
 // The width or the height of the frame is out of range.
 pub const SIZE: u32 = 1;
@@ -56,4 +57,14 @@ pub fn plain(number: u32) -> Outcome
     ensures { λ r. ⌜ r ≡ refusalOf number 0 ⌝ }
 {
     at(number, 0)
+}
+
+// The first of two outcomes that is a refusal.
+pub fn otherwise(first: Outcome, second: Outcome) -> Outcome
+    ensures { λ r. ⌜ r ≡ firstRefusal first second ⌝ }
+{
+    match first {
+        Outcome::Accepted => second,
+        Outcome::Refused(_) => first,
+    }
 }

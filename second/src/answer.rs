@@ -1,0 +1,164 @@
+//! The answers of the calls, and their form as the 64 numbers of the C interface.
+//! Shared by the wide and the plain implementation, which only have the shapes in common.
+
+/// A refused call: the number of the rule and the place that breaks it.
+#[derive(Debug, Clone, Copy, PartialEq, Eq)]
+pub struct Refusal {
+    pub number: u8,
+    pub place: usize,
+}
+
+impl Refusal {
+    /// A refusal that names no place.
+    pub fn new(number: u8) -> Self {
+        Refusal { number, place: 0 }
+    }
+
+    pub fn at(number: u8, place: usize) -> Self {
+        Refusal { number, place }
+    }
+}
+
+/// A star's measured position in 1/256 pixel, and its brightness.
+#[derive(Debug, Clone, Copy, PartialEq, Eq)]
+pub struct Centroid {
+    pub x: i64,
+    pub y: i64,
+    pub brightness: i64,
+}
+
+#[derive(Debug, Clone, Copy, PartialEq, Eq)]
+pub enum Kind {
+    Dark,
+    Beaten,
+    Edge,
+    Flat,
+    Measured(Centroid),
+}
+
+#[derive(Debug, Clone, Copy, PartialEq, Eq)]
+pub struct Verdict {
+    pub row: usize,
+    pub column: usize,
+    pub kind: Kind,
+}
+
+/// The brightest stars of a frame, and how many pixels have each verdict.
+#[derive(Debug, Clone, PartialEq, Eq)]
+pub struct List {
+    pub stars: Vec<Centroid>,
+    pub measured: usize,
+    pub edge: usize,
+    pub flat: usize,
+}
+
+pub type Vector = [i64; 3];
+pub type Matrix = [Vector; 3];
+
+/// The record number given to each direction, or none.
+pub type Assignment = Vec<Option<usize>>;
+
+/// What the whole chain gives.
+#[derive(Debug, Clone, PartialEq, Eq)]
+pub struct Solution {
+    pub list: List,
+    pub assignment: Assignment,
+    pub matrix: Matrix,
+}
+
+/// The room every call of the C interface fills.
+pub type Numbers = [i64; 64];
+
+/// An accepted answer that can be written as numbers, from number 2 on.
+pub trait Answer {
+    fn fill(&self, out: &mut Numbers);
+}
+
+/// Refusal number and place, then the answer; all else is 0.
+pub fn numbers<T: Answer>(answer: &Result<T, Refusal>) -> Numbers {
+    let mut out = [0; 64];
+    match answer {
+        Ok(accepted) => accepted.fill(&mut out),
+        Err(refusal) => {
+            out[0] = i64::from(refusal.number);
+            out[1] = refusal.place as i64;
+        }
+    }
+    out
+}
+
+impl Answer for Verdict {
+    fn fill(&self, out: &mut Numbers) {
+        out[2] = self.row as i64;
+        out[3] = self.column as i64;
+        out[4] = match self.kind {
+            Kind::Dark => 0,
+            Kind::Beaten => 1,
+            Kind::Edge => 2,
+            Kind::Flat => 3,
+            Kind::Measured(_) => 4,
+        };
+        if let Kind::Measured(star) = self.kind {
+            out[5..8].copy_from_slice(&[star.x, star.y, star.brightness]);
+        }
+    }
+}
+
+impl Answer for List {
+    fn fill(&self, out: &mut Numbers) {
+        out[2] = self.stars.len() as i64;
+        out[3] = self.measured as i64;
+        out[4] = self.edge as i64;
+        out[5] = self.flat as i64;
+        for (k, star) in self.stars.iter().enumerate() {
+            out[6 + 3 * k..9 + 3 * k].copy_from_slice(&[star.x, star.y, star.brightness]);
+        }
+    }
+}
+
+impl Answer for Vector {
+    fn fill(&self, out: &mut Numbers) {
+        out[2..5].copy_from_slice(self);
+    }
+}
+
+/// A catalogue's number of records.
+impl Answer for usize {
+    fn fill(&self, out: &mut Numbers) {
+        out[2] = *self as i64;
+    }
+}
+
+/// A ranking's answer is its room.
+impl Answer for () {
+    fn fill(&self, _out: &mut Numbers) {}
+}
+
+fn star_number(star: Option<usize>) -> i64 {
+    star.map_or(-1, |record| record as i64)
+}
+
+impl Answer for Assignment {
+    fn fill(&self, out: &mut Numbers) {
+        out[2] = self.len() as i64;
+        for (i, star) in self.iter().enumerate() {
+            out[3 + i] = star_number(*star);
+        }
+    }
+}
+
+impl Answer for Matrix {
+    fn fill(&self, out: &mut Numbers) {
+        out[2..11].copy_from_slice(self.as_flattened());
+    }
+}
+
+impl Answer for Solution {
+    fn fill(&self, out: &mut Numbers) {
+        self.list.fill(out);
+        for (i, star) in self.assignment.iter().enumerate() {
+            out[30 + i] = star_number(*star);
+        }
+        out[38..47].copy_from_slice(self.matrix.as_flattened());
+    }
+}

@@ -1,0 +1,174 @@
+//! A random run of the proved library against the wide implementation.
+//!
+//! `compare SECONDS SEED` calls every entry point with sound and damaged inputs for about so long and
+//! compares all 64 numbers and every lent buffer. It ends with 1 if anything differs.
+
+use second::call::{Call, Entry, Lent, ENTRIES};
+use second::generate::any_call;
+use second::linked;
+use second::random::Random;
+use second::search::Effort;
+use std::env;
+use std::process::ExitCode;
+use std::time::{Duration, Instant};
+
+/// Longer searches are left out.
+const MOST_STARS_TRIED: u64 = 300_000;
+/// What the numbers' room holds before a call.
+const UNTOUCHED: i64 = 0x7A7A_7A7A_7A7A_7A7A;
+const DIFFERENCES_SHOWN: u64 = 5;
+/// Calls of each entry point in a round: more of the quick ones.
+const CALLS_A_ROUND: [usize; 8] = [4, 2, 8, 4, 2, 4, 8, 1];
+
+#[derive(Default, Clone, Copy)]
+struct Count {
+    compared: u64,
+    accepted: u64,
+    refused: u64,
+    differences: u64,
+}
+
+/// The entry points' counts, and those of the calls that must do nothing.
+struct Run {
+    entries: [Count; 8],
+    nothing: Count,
+    shown: u64,
+}
+
+fn main() -> ExitCode {
+    let arguments: Vec<u64> = env::args().skip(1).filter_map(|argument| argument.parse().ok()).collect();
+    let [seconds, seed] = arguments[..] else {
+        eprintln!("usage: compare SECONDS SEED");
+        return ExitCode::FAILURE;
+    };
+    let random = Random::new(seed);
+    let mut run = Run { entries: [Count::default(); 8], nothing: Count::default(), shown: 0 };
+    let start = Instant::now();
+    while start.elapsed() < Duration::from_secs(seconds) {
+        for (entry, calls) in ENTRIES.into_iter().zip(CALLS_A_ROUND) {
+            for _ in 0..calls {
+                let call = any_call(&random, entry);
+                run.compare(&call);
+                if random.chance(2) {
+                    run.compare_nothing_done(&random, call);
+                }
+            }
+        }
+    }
+    run.print_table();
+    match run.differences() {
+        0 => ExitCode::SUCCESS,
+        _ => ExitCode::FAILURE,
+    }
+}
+
+impl Run {
+    fn compare(&mut self, call: &Call) {
+        let Ok(expected) = call.run_wide(&mut Effort::up_to(MOST_STARS_TRIED)) else {
+            return;
+        };
+        let mut expected_memory = call.lend();
+        expected_memory.room = expected.room;
+        let mut lent = call.lend();
+        let mut out = [UNTOUCHED; 64];
+        linked::run(call, &mut lent, &mut out);
+
+        let difference = first_difference(&expected.out, &expected_memory, &out, &lent);
+        let count = &mut self.entries[call.entry.index()];
+        count.compared += 1;
+        match expected.out[0] {
+            0 => count.accepted += 1,
+            _ => count.refused += 1,
+        }
+        if let Some(difference) = difference {
+            count.differences += 1;
+            self.show(call, &difference);
+        }
+    }
+
+    /// A room of fewer than 64 numbers, or an attitude of other than twelve: everything stays as found.
+    fn compare_nothing_done(&mut self, random: &Random, mut call: Call) {
+        let mut room = 64;
+        if call.entry == Entry::Attitude && random.chance(50) {
+            call.vectors = call.vectors.resized(random.pick(&[0, 1, 3, 11, 13, 24]));
+        } else {
+            room = random.pick(&[0, 1, 2, 47, 63]);
+        }
+        let (before, mut lent) = (call.lend(), call.lend());
+        let mut out = vec![UNTOUCHED; room];
+        linked::run(&call, &mut lent, &mut out);
+        self.nothing.compared += 1;
+        if let Some(difference) = first_difference(&vec![UNTOUCHED; room], &before, &out, &lent) {
+            self.nothing.differences += 1;
+            self.show(&call, &format!("with a room of {room} numbers: {difference}"));
+        }
+    }
+
+    fn show(&mut self, call: &Call, difference: &str) {
+        self.shown += 1;
+        if self.shown > DIFFERENCES_SHOWN {
+            return;
+        }
+        println!("{}: {difference}", call.entry.name());
+        println!("  scalars {:?}", call.scalars().iter().map(|&word| word as i64).collect::<Vec<_>>());
+        let lent = call.lend();
+        show_buffer("samples", &lent.samples);
+        show_buffer("directions", &lent.directions);
+        show_buffer("catalogue", &lent.catalogue);
+        show_buffer("ranking", &lent.ranking);
+        show_buffer("vectors", &lent.vectors);
+        if call.writes() {
+            println!("  room of {} words", lent.room.len());
+        }
+    }
+
+    fn differences(&self) -> u64 {
+        self.entries.iter().map(|count| count.differences).sum::<u64>() + self.nothing.differences
+    }
+
+    fn print_table(&self) {
+        println!(
+            "{:<14} {:>10} {:>10} {:>10} {:>11}",
+            "entry point", "compared", "accepted", "refused", "differences"
+        );
+        let row = |name: &str, count: &Count| {
+            let Count { compared, accepted, refused, differences } = count;
+            println!("{name:<14} {compared:>10} {accepted:>10} {refused:>10} {differences:>11}");
+        };
+        for entry in ENTRIES {
+            row(entry.name(), &self.entries[entry.index()]);
+        }
+        row("nothing done", &self.nothing);
+    }
+}
+
+/// A buffer the call is lent; of a long one only the length.
+fn show_buffer<T: std::fmt::Debug>(name: &str, values: &[T]) {
+    match values.len() {
+        0 => {}
+        len if len <= 200 => println!("  {name} {values:?}"),
+        len => println!("  {len} {name}"),
+    }
+}
+
+/// Where numbers or memory are not as expected, in words.
+fn first_difference(expected: &[i64], expected_memory: &Lent, out: &[i64], lent: &Lent) -> Option<String> {
+    if let Some(k) = (0..out.len()).find(|&k| out[k] != expected[k]) {
+        return Some(format!("number {k} is {} where {} is expected", out[k], expected[k]));
+    }
+    buffer_difference("sample", &expected_memory.samples, &lent.samples)
+        .or_else(|| buffer_difference("direction number", &expected_memory.directions, &lent.directions))
+        .or_else(|| buffer_difference("catalogue byte", &expected_memory.catalogue, &lent.catalogue))
+        .or_else(|| buffer_difference("ranking word", &expected_memory.ranking, &lent.ranking))
+        .or_else(|| buffer_difference("room word", &expected_memory.room, &lent.room))
+        .or_else(|| buffer_difference("vector number", &expected_memory.vectors, &lent.vectors))
+}
+
+fn buffer_difference<T: PartialEq + std::fmt::Display>(
+    name: &str,
+    expected: &[T],
+    found: &[T],
+) -> Option<String> {
+    let k = (0..found.len()).find(|&k| found[k] != expected[k])?;
+    Some(format!("{name} {k} is {} where {} is expected", found[k], expected[k]))
+}

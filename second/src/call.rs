@@ -1,0 +1,401 @@
+//! One call of an entry point with all it is lent, its form in the recorded cases, and its outcome.
+
+use crate::answer::{numbers, Numbers};
+use crate::chain::{chain_within, Settings};
+use crate::search::{search_within, Effort, GaveUp};
+use crate::{attitude, catalogue, direction, frame, plain, ranking};
+
+#[derive(Debug, Clone, Copy, PartialEq, Eq)]
+pub enum Entry {
+    Verdict,
+    List,
+    Direction,
+    Catalogue,
+    Ranking,
+    Search,
+    Attitude,
+    Chain,
+}
+
+pub const ENTRIES: [Entry; 8] = [
+    Entry::Verdict,
+    Entry::List,
+    Entry::Direction,
+    Entry::Catalogue,
+    Entry::Ranking,
+    Entry::Search,
+    Entry::Attitude,
+    Entry::Chain,
+];
+
+impl Entry {
+    pub fn name(self) -> &'static str {
+        ["verdict", "list", "direction", "catalogue", "ranking", "search", "attitude", "chain"][self.index()]
+    }
+
+    pub fn index(self) -> usize {
+        self as usize
+    }
+
+    /// The kind byte of the recorded cases.
+    pub fn kind(self) -> u8 {
+        self as u8 + 1
+    }
+
+    /// How many of the 64 numbers the recorded output shows.
+    pub fn numbers_shown(self) -> usize {
+        [8, 30, 5, 3, 2, 11, 11, 47][self.index()]
+    }
+
+    /// The refusals this call can give.
+    pub fn refusals(self) -> &'static [u8] {
+        match self {
+            Entry::Verdict => &[1, 2, 3, 4, 15],
+            Entry::List => &[1, 2, 3, 4],
+            Entry::Direction => &[5],
+            Entry::Catalogue => &[6, 7],
+            Entry::Ranking => &[6, 7, 8, 9, 10],
+            Entry::Search => &[6, 7, 8, 9, 11, 12, 13],
+            Entry::Attitude => &[8, 14],
+            Entry::Chain => &[1, 2, 3, 4, 5, 6, 7, 9, 10, 12, 13, 14],
+        }
+    }
+}
+
+/// An element of a lent buffer.
+pub trait Element: Copy + Default + PartialEq {
+    fn write(self, bytes: &mut Vec<u8>);
+}
+
+macro_rules! element {
+    ($($type:ty),*) => {$(
+        impl Element for $type {
+            fn write(self, bytes: &mut Vec<u8>) {
+                bytes.extend(self.to_be_bytes());
+            }
+        }
+    )*};
+}
+element!(u8, u16, i32, i64);
+
+/// A lent buffer: a repeated pattern with patches on top, so that a large frame takes little room in a file.
+#[derive(Debug, Clone, Default)]
+pub struct Buffer<T> {
+    pub len: usize,
+    pub pattern: Vec<T>,
+    pub patches: Vec<(usize, T)>,
+}
+
+impl<T: Element> Buffer<T> {
+    pub fn repeat(len: usize, pattern: &[T]) -> Self {
+        let mut buffer = Buffer { len, pattern: pattern.to_vec(), patches: Vec::new() };
+        buffer.pattern.truncate(len);
+        buffer
+    }
+
+    /// Exactly these elements, as their shortest repeated pattern.
+    pub fn of(values: &[T]) -> Self {
+        Buffer::repeat(values.len(), &values[..shortest_period(values)])
+    }
+
+    pub fn set(&mut self, index: usize, value: T) {
+        assert!(index < self.len);
+        self.patches.push((index, value));
+    }
+
+    pub fn get(&self, index: usize) -> T {
+        let patch = self.patches.iter().rev().find(|patch| patch.0 == index);
+        match patch {
+            Some(patch) => patch.1,
+            None if self.pattern.is_empty() => T::default(),
+            None => self.pattern[index % self.pattern.len()],
+        }
+    }
+
+    /// The same pattern and patches, cut off or gone on with.
+    pub fn resized(&self, len: usize) -> Self {
+        let mut buffer = self.clone();
+        buffer.len = len;
+        buffer.pattern.truncate(len);
+        buffer.patches.retain(|patch| patch.0 < len);
+        buffer
+    }
+
+    pub fn values(&self) -> Vec<T> {
+        let mut values = match self.pattern.len() {
+            0 => vec![T::default(); self.len],
+            _ => self.pattern.iter().copied().cycle().take(self.len).collect(),
+        };
+        for &(index, value) in &self.patches {
+            values[index] = value;
+        }
+        values
+    }
+
+    fn write(&self, bytes: &mut Vec<u8>) {
+        assert!(self.pattern.len() <= self.len && self.patches.len() <= 4_096);
+        write_word(bytes, self.len as u64);
+        write_word(bytes, self.pattern.len() as u64);
+        for &element in &self.pattern {
+            element.write(bytes);
+        }
+        write_word(bytes, self.patches.len() as u64);
+        for &(index, value) in &self.patches {
+            write_word(bytes, index as u64);
+            value.write(bytes);
+        }
+    }
+}
+
+/// The smallest p for which every element equals the one p before it.
+fn shortest_period<T: PartialEq>(values: &[T]) -> usize {
+    // shared[i]: how long a beginning of the values also ends just after element i.
+    let mut shared = vec![0; values.len()];
+    for i in 1..values.len() {
+        let mut length: usize = shared[i - 1];
+        while length > 0 && values[i] != values[length] {
+            length = shared[length - 1];
+        }
+        shared[i] = if values[i] == values[length] { length + 1 } else { 0 };
+    }
+    values.len() - shared.last().copied().unwrap_or(0)
+}
+
+fn write_word(bytes: &mut Vec<u8>, word: u64) {
+    bytes.extend(word.to_be_bytes());
+}
+
+/// Everything any entry point is lent; each one looks at its own part only.
+#[derive(Debug, Clone)]
+pub struct Call {
+    pub entry: Entry,
+    pub samples: Buffer<u16>,
+    pub width: u64,
+    pub height: u64,
+    pub threshold: u64,
+    pub row: u64,
+    pub column: u64,
+    pub cx: i64,
+    pub cy: i64,
+    pub focal: i64,
+    pub x: i64,
+    pub y: i64,
+    pub directions: Buffer<i32>,
+    pub catalogue: Buffer<u8>,
+    pub needed: u64,
+    pub tolerance: u64,
+    pub ranking: Buffer<u16>,
+    pub room: Buffer<u16>,
+    pub vectors: Buffer<i64>,
+}
+
+/// The buffers of a call, as memory.
+#[derive(Debug, Clone, PartialEq, Eq)]
+pub struct Lent {
+    pub samples: Vec<u16>,
+    pub directions: Vec<i32>,
+    pub catalogue: Vec<u8>,
+    pub ranking: Vec<u16>,
+    pub room: Vec<u16>,
+    pub vectors: Vec<i64>,
+}
+
+impl Lent {
+    /// The four vectors of an attitude call.
+    pub fn four_vectors(&self) -> [i64; 12] {
+        self.vectors[..].try_into().expect("an attitude is asked for with twelve numbers")
+    }
+}
+
+/// What a call gives: its numbers, and the room it was lent to write in.
+#[derive(Debug, Clone, PartialEq, Eq)]
+pub struct Outcome {
+    pub out: Numbers,
+    pub room: Vec<u16>,
+}
+
+impl Call {
+    pub fn new(entry: Entry) -> Self {
+        Call {
+            entry,
+            samples: Buffer::default(),
+            width: 0,
+            height: 0,
+            threshold: 0,
+            row: 0,
+            column: 0,
+            cx: 0,
+            cy: 0,
+            focal: 0,
+            x: 0,
+            y: 0,
+            directions: Buffer::default(),
+            catalogue: Buffer::default(),
+            needed: 0,
+            tolerance: 0,
+            ranking: Buffer::default(),
+            room: Buffer::default(),
+            vectors: Buffer::default(),
+        }
+    }
+
+    /// The scalar parameters in the interface's order, as 64-bit words.
+    pub fn scalars(&self) -> Vec<u64> {
+        let signed = |n: i64| n as u64;
+        match self.entry {
+            Entry::Verdict => vec![self.width, self.height, self.threshold, self.row, self.column],
+            Entry::List => vec![self.width, self.height, self.threshold],
+            Entry::Direction => [self.cx, self.cy, self.focal, self.x, self.y].map(signed).to_vec(),
+            Entry::Catalogue | Entry::Attitude => vec![],
+            Entry::Ranking => vec![self.tolerance],
+            Entry::Search => vec![self.needed, self.tolerance],
+            Entry::Chain => vec![
+                self.width,
+                self.height,
+                self.threshold,
+                signed(self.cx),
+                signed(self.cy),
+                signed(self.focal),
+                self.needed,
+                self.tolerance,
+            ],
+        }
+    }
+
+    /// The call as it stands in the file of recorded cases.
+    pub fn write(&self, bytes: &mut Vec<u8>) {
+        bytes.push(self.entry.kind());
+        for word in self.scalars() {
+            write_word(bytes, word);
+        }
+        match self.entry {
+            Entry::Verdict | Entry::List => self.samples.write(bytes),
+            Entry::Direction => {}
+            Entry::Catalogue => self.catalogue.write(bytes),
+            Entry::Ranking => {
+                self.directions.write(bytes);
+                self.catalogue.write(bytes);
+                self.room.write(bytes);
+            }
+            Entry::Search => {
+                self.directions.write(bytes);
+                self.catalogue.write(bytes);
+                self.ranking.write(bytes);
+            }
+            Entry::Attitude => self.vectors.write(bytes),
+            Entry::Chain => {
+                self.samples.write(bytes);
+                self.catalogue.write(bytes);
+                self.room.write(bytes);
+            }
+        }
+    }
+
+    pub fn settings(&self) -> Settings {
+        Settings {
+            width: self.width.into(),
+            height: self.height.into(),
+            threshold: self.threshold.into(),
+            cx: self.cx.into(),
+            cy: self.cy.into(),
+            focal: self.focal.into(),
+            needed: self.needed.into(),
+            tolerance: self.tolerance.into(),
+        }
+    }
+
+    /// The buffers as a caller lends them.
+    pub fn lend(&self) -> Lent {
+        Lent {
+            samples: self.samples.values(),
+            directions: self.directions.values(),
+            catalogue: self.catalogue.values(),
+            ranking: self.ranking.values(),
+            room: self.room.values(),
+            vectors: self.vectors.values(),
+        }
+    }
+
+    /// The outcome by the wide implementation, unless its search goes beyond the effort.
+    pub fn run_wide(&self, effort: &mut Effort) -> Result<Outcome, GaveUp> {
+        let set = self.settings();
+        let mut lent = self.lend();
+        let out = match self.entry {
+            Entry::Verdict => {
+                let (row, column) = (self.row.into(), self.column.into());
+                numbers(&frame::verdict(&lent.samples, set.width, set.height, set.threshold, row, column))
+            }
+            Entry::List => numbers(&frame::list(&lent.samples, set.width, set.height, set.threshold)),
+            Entry::Direction => {
+                numbers(&direction::direction(set.cx, set.cy, set.focal, self.x.into(), self.y.into()))
+            }
+            Entry::Catalogue => numbers(&catalogue::catalogue(&lent.catalogue)),
+            Entry::Ranking => {
+                numbers(&ranking::ranking(&lent.directions, &lent.catalogue, set.tolerance, &mut lent.room))
+            }
+            Entry::Search => numbers(&search_within(
+                &lent.directions,
+                &lent.catalogue,
+                set.needed,
+                set.tolerance,
+                &lent.ranking,
+                effort,
+            )?),
+            Entry::Attitude => numbers(&attitude::attitude(&lent.four_vectors())),
+            Entry::Chain => {
+                numbers(&chain_within(&lent.samples, &set, &lent.catalogue, &mut lent.room, effort)?)
+            }
+        };
+        Ok(Outcome { out, room: lent.room })
+    }
+
+    pub fn run_plain(&self) -> Outcome {
+        let mut lent = self.lend();
+        let out = self.run_plain_on(&mut lent);
+        Outcome { out, room: lent.room }
+    }
+
+    /// The numbers plain Rust gives for the buffers lent.
+    pub fn run_plain_on(&self, lent: &mut Lent) -> Numbers {
+        let (width, height, threshold) = (self.width as usize, self.height as usize, self.threshold as usize);
+        let needed = self.needed as usize;
+        match self.entry {
+            Entry::Verdict => {
+                let (row, column) = (self.row as usize, self.column as usize);
+                numbers(&plain::verdict(&lent.samples, width, height, threshold, row, column))
+            }
+            Entry::List => numbers(&plain::list(&lent.samples, width, height, threshold)),
+            Entry::Direction => numbers(&plain::direction(self.cx, self.cy, self.focal, self.x, self.y)),
+            Entry::Catalogue => numbers(&plain::catalogue(&lent.catalogue)),
+            Entry::Ranking => {
+                numbers(&plain::ranking(&lent.directions, &lent.catalogue, self.tolerance, &mut lent.room))
+            }
+            Entry::Search => numbers(&plain::search(
+                &lent.directions,
+                &lent.catalogue,
+                needed,
+                self.tolerance,
+                &lent.ranking,
+            )),
+            Entry::Attitude => numbers(&plain::attitude(&lent.four_vectors())),
+            Entry::Chain => numbers(&plain::chain(
+                &lent.samples,
+                width,
+                height,
+                threshold,
+                self.cx,
+                self.cy,
+                self.focal,
+                &lent.catalogue,
+                needed,
+                self.tolerance,
+                &mut lent.room,
+            )),
+        }
+    }
+
+    /// Whether the call is lent a room to write in.
+    pub fn writes(&self) -> bool {
+        matches!(self.entry, Entry::Ranking | Entry::Chain)
+    }
+}

@@ -1,0 +1,206 @@
+//! Damage that gives each refusal, in each of its ways.
+
+use crate::call::{Buffer, Call, Entry};
+use crate::generate::{HUGE, MOST_TOLERANCE};
+use crate::random::Random;
+use crate::sky;
+
+/// Makes the call break the rule of this number in one of its ways (or do nothing where the call has
+/// nothing to break). Damage adds up, so a call can earn several refusals.
+pub fn damage(call: &mut Call, reason: u8, random: &Random) {
+    match reason {
+        1 => {
+            let side = random.pick(&[0, 1, 6, 1_025, 1_026, random.pick(&HUGE)]);
+            match random.below(3) {
+                0 => call.width = side,
+                1 => call.height = side,
+                _ => (call.width, call.height) = (side, random.pick(&[6, 1_025, random.pick(&HUGE)])),
+            }
+        }
+        2 => damage_sample_count(call, random),
+        3 => call.threshold = random.pick(&[0, 4_096, 65_535, random.pick(&HUGE)]),
+        4 => {
+            for _ in 0..1 + random.below(3) {
+                if call.samples.len > 0 {
+                    let place = random.below(call.samples.len);
+                    call.samples.set(place, random.pick(&[4_096, 4_097, 8_191, 32_768, 65_535]));
+                }
+            }
+        }
+        5 => damage_settings(call, random),
+        6 => damage_catalogue_length(call, random),
+        7 => damage_record(call, random),
+        8 => damage_vectors(call, random),
+        9 => match random.chance(50) && call.entry != Entry::Ranking {
+            true => {
+                call.needed = random.pick(&[0, 1, 2, 9, 10, 255, 256 + 3, (1 << 32) + 3, u64::MAX, 1 << 63])
+            }
+            false => call.tolerance = random.pick(&[MOST_TOLERANCE + 1, 1 << 63, (1 << 63) - 1, u64::MAX]),
+        },
+        10 => {
+            let full = if call.entry == Entry::Chain {
+                4_096
+            } else {
+                call.directions.len / 3 * (call.catalogue.len / 16)
+            };
+            let len = random.pick(&[full.saturating_sub(1), full / 2, 0]);
+            call.room = call.room.resized(len);
+        }
+        11 => damage_ranking(call, random),
+        12 => match call.entry {
+            Entry::Search => lose_directions(call, random),
+            _ => call.needed = 8,
+        },
+        15 => match random.below(3) {
+            0 => call.row = random.pick(&[call.height, call.height.wrapping_add(1), random.pick(&HUGE)]),
+            1 => call.column = random.pick(&[call.width, call.width.wrapping_add(1), random.pick(&HUGE)]),
+            _ => (call.row, call.column) = (call.height, call.width),
+        },
+        _ => {}
+    }
+}
+
+fn damage_sample_count(call: &mut Call, random: &Random) {
+    let len = call.samples.len;
+    match random.below(4) {
+        0 => call.samples = Buffer::repeat(0, &[]),
+        1 if call.width < 1_024 => call.width += 1,
+        2 if call.height < 1_024 => call.height += 1,
+        _ => {
+            let count = random.pick(&[len + 1, len.saturating_sub(1), len + 7, len / 2]);
+            call.samples = call.samples.resized(count.min(1_050_000));
+        }
+    }
+}
+
+fn damage_settings(call: &mut Call, random: &Random) {
+    let beyond = random.pick(&[-1, 261_889, -261_888, i64::MIN, i64::MAX, (1 << 32) + 100]);
+    match random.below(if call.entry == Entry::Direction { 5 } else { 3 }) {
+        0 => call.cx = beyond,
+        1 => call.cy = beyond,
+        2 => {
+            call.focal = random.pick(&[16_383, 4_194_305, 0, -16_384, i64::MIN, i64::MAX, (1 << 32) + 20_000])
+        }
+        3 => call.x = beyond,
+        _ => call.y = beyond,
+    }
+}
+
+fn damage_catalogue_length(call: &mut Call, random: &Random) {
+    let len = call.catalogue.len;
+    let wanted = match random.below(4) {
+        0 => 0,
+        1 => len.saturating_sub(1 + random.below(15)),
+        2 => len + 1 + random.below(15),
+        _ => {
+            // One record over and over; that they are too many comes before their equal identities.
+            let record = sky::record(5, sky::anywhere(random));
+            call.catalogue = Buffer::repeat(16 * random.pick(&[513, 520]), &record);
+            return;
+        }
+    };
+    call.catalogue = call.catalogue.resized(wanted.min(16 * 520));
+}
+
+fn damage_record(call: &mut Call, random: &Random) {
+    let records = call.catalogue.len / 16;
+    if records == 0 {
+        return;
+    }
+    for _ in 0..1 + random.below(2) {
+        let record = random.pick(&[0, records - 1, random.below(records)]);
+        let at = 16 * record;
+        match random.below(5) {
+            0 if record > 0 => {
+                // The identity of the record before, or one less than it, or 0.
+                let before = word_at(&call.catalogue, at - 16);
+                let identity = random.pick(&[before, before.wrapping_sub(1), 0]);
+                set_word(&mut call.catalogue, at, identity);
+            }
+            1 if record + 1 < records => set_word(&mut call.catalogue, at, u32::MAX),
+            2 => {
+                // Turned into the longest or shortest direction allowed, or one beyond.
+                let mut star = random.pick(&[sky::LONGEST, sky::SHORTEST, sky::TOO_LONG, sky::TOO_SHORT]);
+                random.shuffle(&mut star);
+                set_star(&mut call.catalogue, at, star);
+            }
+            3 => {
+                // Near enough in length, but one component is too large.
+                let mut star = [random.pick(&[1_000_000_001, -1_000_000_001, i32::MIN, i32::MAX]), 0, 0];
+                random.shuffle(&mut star);
+                set_star(&mut call.catalogue, at, star);
+            }
+            _ => {
+                let place = at + random.below(16);
+                let byte = call.catalogue.get(place);
+                call.catalogue.set(place, byte ^ (1 << random.below(8)));
+            }
+        }
+    }
+}
+
+fn word_at(bytes: &Buffer<u8>, at: usize) -> u32 {
+    (at..at + 4).fold(0, |word, k| (word << 8) | u32::from(bytes.get(k)))
+}
+
+fn set_word(bytes: &mut Buffer<u8>, at: usize, word: u32) {
+    for (k, byte) in word.to_be_bytes().into_iter().enumerate() {
+        bytes.set(at + k, byte);
+    }
+}
+
+fn set_star(bytes: &mut Buffer<u8>, at: usize, star: [i32; 3]) {
+    for (k, component) in star.into_iter().enumerate() {
+        set_word(bytes, at + 4 + 4 * k, component as u32);
+    }
+}
+
+fn damage_vectors(call: &mut Call, random: &Random) {
+    if call.entry == Entry::Attitude {
+        let beyond = [1_000_000_001, -1_000_000_001, i64::MIN, i64::MAX, (1 << 32) + 5, -(1 << 32)];
+        call.vectors.set(random.below(12), random.pick(&beyond));
+        return;
+    }
+    let mut numbers = call.directions.values();
+    match random.below(4) {
+        0 => numbers.truncate(numbers.len().saturating_sub(1 + random.below(2))),
+        1 => numbers.extend(vec![5; 1 + random.below(2)]),
+        2 => numbers.resize(random.pick(&[27, 28, 39]), 1_000),
+        _ if !numbers.is_empty() => {
+            let place = random.below(numbers.len());
+            numbers[place] = random.pick(&[1_000_000_001, -1_000_000_001, i32::MIN, i32::MAX]);
+        }
+        _ => numbers.push(0),
+    }
+    call.directions = Buffer::of(&numbers);
+}
+
+fn damage_ranking(call: &mut Call, random: &Random) {
+    let mut words = call.ranking.values();
+    let stars = (call.catalogue.len / 16).max(1);
+    if words.is_empty() || random.chance(25) {
+        words.resize(
+            random.pick(&[words.len() + 1, words.len().saturating_sub(1), words.len() + stars, 0]).min(4_200),
+            0,
+        );
+    } else {
+        for _ in 0..1 + random.below(2) {
+            let place = random.pick(&[0, words.len() - 1, random.below(words.len())]);
+            let row_start = place - place % stars;
+            words[place] = match random.below(3) {
+                0 => random.pick(&[stars as u16, stars as u16 + 1, 512, 32_768, 65_535]),
+                1 => words[row_start + random.below(stars.min(words.len() - row_start))],
+                _ => words[place.saturating_sub(1)],
+            };
+        }
+    }
+    call.ranking = Buffer::of(&words);
+}
+
+/// Leaves fewer directions than are needed, with the ranking cut to them.
+fn lose_directions(call: &mut Call, random: &Random) {
+    let stars = call.catalogue.len / 16;
+    let keep = random.below(call.needed.clamp(1, 8) as usize).min(call.directions.len / 3);
+    call.directions = call.directions.resized(3 * keep);
+    call.ranking = call.ranking.resized((keep * stars).min(call.ranking.len));
+}

@@ -1,0 +1,153 @@
+//! Pixel verdicts, positions and the list of a frame.
+
+use crate::answer::{Centroid, Kind, List, Refusal, Verdict};
+use crate::narrow;
+use std::cmp::Reverse;
+
+const LARGEST_SAMPLE: i128 = 4_095;
+const STARS_KEPT: usize = 8;
+
+/// A frame that keeps rules 1 to 4.
+pub struct Frame<'a> {
+    samples: &'a [u16],
+    width: i128,
+    height: i128,
+    threshold: i128,
+}
+
+pub fn verdict(
+    samples: &[u16],
+    width: i128,
+    height: i128,
+    threshold: i128,
+    row: i128,
+    column: i128,
+) -> Result<Verdict, Refusal> {
+    let frame = Frame::check(samples, width, height, threshold)?;
+    if !frame.contains(row, column) {
+        return Err(Refusal::new(15));
+    }
+    Ok(frame.verdict(row, column))
+}
+
+pub fn list(samples: &[u16], width: i128, height: i128, threshold: i128) -> Result<List, Refusal> {
+    Ok(Frame::check(samples, width, height, threshold)?.list())
+}
+
+impl<'a> Frame<'a> {
+    pub fn check(samples: &'a [u16], width: i128, height: i128, threshold: i128) -> Result<Self, Refusal> {
+        if !(7..=1_024).contains(&width) || !(7..=1_024).contains(&height) {
+            return Err(Refusal::new(1));
+        }
+        if samples.len() as i128 != width * height {
+            return Err(Refusal::new(2));
+        }
+        if !(1..=LARGEST_SAMPLE).contains(&threshold) {
+            return Err(Refusal::new(3));
+        }
+        if let Some(place) = samples.iter().position(|&sample| i128::from(sample) > LARGEST_SAMPLE) {
+            return Err(Refusal::at(4, place));
+        }
+        Ok(Frame { samples, width, height, threshold })
+    }
+
+    /// The measured pixels by falling brightness, equal ones in row order, and the counts of the frame.
+    pub fn list(&self) -> List {
+        let mut list = List { stars: Vec::new(), measured: 0, edge: 0, flat: 0 };
+        for row in 0..self.height {
+            for column in 0..self.width {
+                match self.verdict(row, column).kind {
+                    Kind::Dark | Kind::Beaten => {}
+                    Kind::Edge => list.edge += 1,
+                    Kind::Flat => list.flat += 1,
+                    Kind::Measured(star) => {
+                        list.measured += 1;
+                        list.stars.push(star);
+                    }
+                }
+            }
+        }
+        // The stars were met in row order and this sort keeps equal ones as they stand.
+        list.stars.sort_by_key(|star| Reverse(star.brightness));
+        list.stars.truncate(STARS_KEPT);
+        list
+    }
+
+    fn verdict(&self, row: i128, column: i128) -> Verdict {
+        let kind = if self.sample(row, column) < self.threshold {
+            Kind::Dark
+        } else if self.is_beaten(row, column) {
+            Kind::Beaten
+        } else if self.is_edge(row, column) {
+            Kind::Edge
+        } else {
+            self.measure(row, column).map_or(Kind::Flat, Kind::Measured)
+        };
+        Verdict { row: row as usize, column: column as usize, kind }
+    }
+
+    fn contains(&self, row: i128, column: i128) -> bool {
+        (0..self.height).contains(&row) && (0..self.width).contains(&column)
+    }
+
+    fn sample(&self, row: i128, column: i128) -> i128 {
+        i128::from(self.samples[(row * self.width + column) as usize])
+    }
+
+    fn is_beaten(&self, row: i128, column: i128) -> bool {
+        let own = self.sample(row, column);
+        for r in row - 3..=row + 3 {
+            for c in column - 3..=column + 3 {
+                if !self.contains(r, c) {
+                    continue;
+                }
+                let other = self.sample(r, c);
+                let earlier = (r, c) < (row, column);
+                let later = (r, c) > (row, column);
+                if (earlier && other >= own) || (later && other > own) {
+                    return true;
+                }
+            }
+        }
+        false
+    }
+
+    fn is_edge(&self, row: i128, column: i128) -> bool {
+        row < 3 || column < 3 || row > self.height - 4 || column > self.width - 4
+    }
+
+    /// Position and brightness of a pixel that is not at the edge; none where the brightness is 0.
+    fn measure(&self, row: i128, column: i128) -> Option<Centroid> {
+        let border = self.border_sum(row, column);
+        let (mut brightness, mut moment_x, mut moment_y) = (0, 0, 0);
+        for down in -2..=2 {
+            for right in -2..=2 {
+                let weight = (24 * self.sample(row + down, column + right) - border).max(0);
+                brightness += weight;
+                moment_x += weight * right;
+                moment_y += weight * down;
+            }
+        }
+        if brightness == 0 {
+            return None;
+        }
+        Some(Centroid {
+            x: narrow(256 * column + 256 * moment_x / brightness),
+            y: narrow(256 * row + 256 * moment_y / brightness),
+            brightness: narrow(brightness),
+        })
+    }
+
+    /// The sum of the 24 pixels around the 7 x 7 window.
+    fn border_sum(&self, row: i128, column: i128) -> i128 {
+        let mut sum = 0;
+        for down in -3..=3_i128 {
+            for right in -3..=3_i128 {
+                if down.abs() == 3 || right.abs() == 3 {
+                    sum += self.sample(row + down, column + right);
+                }
+            }
+        }
+        sum
+    }
+}

@@ -1,0 +1,513 @@
+//! Makes calls: plausible ones of every kind, and damage that gives each refusal in each way.
+
+use crate::call::{Buffer, Call, Entry};
+use crate::damage::damage;
+use crate::random::Random;
+use crate::sky::{self, Turn};
+use crate::{direction, dot, frame, ranking};
+
+pub const MOST_TOLERANCE: u64 = 10_000_000_000_000_000;
+
+/// Numbers far out of any range; many would fall back into it if their high bits were lost.
+pub const HUGE: [u64; 7] =
+    [65_536 + 50, (1 << 32) + 7, 1 << 63, (1 << 63) - 1, u64::MAX, u64::MAX - 6, (1 << 63) + 50];
+
+// Frames.
+
+/// A call that looks at a frame all of whose samples are 0.
+pub fn dark_frame(entry: Entry, width: usize, height: usize, threshold: u64) -> Call {
+    frame_of(entry, width, height, threshold, Buffer::repeat(width * height, &[0]))
+}
+
+pub fn frame_of(entry: Entry, width: usize, height: usize, threshold: u64, samples: Buffer<u16>) -> Call {
+    let mut call = Call::new(entry);
+    call.samples = samples;
+    call.width = width as u64;
+    call.height = height as u64;
+    call.threshold = threshold;
+    call
+}
+
+pub fn set_pixel(call: &mut Call, row: usize, column: usize, sample: u16) {
+    let index = row * call.width as usize + column;
+    call.samples.set(index, sample);
+}
+
+/// A small frame with samples of one of several kinds: few values (ties), the full range, gentle noise.
+pub fn small_frame(random: &Random, entry: Entry) -> Call {
+    let (width, height) = (7 + random.below(14), 7 + random.below(14));
+    let samples: Vec<u16> = match random.below(5) {
+        0 => made(width * height, || random.pick(&[0, 0, 0, 50, 100])),
+        1 => made(width * height, || random.below(4_096) as u16),
+        2 => made(width * height, || random.pick(&[4_094, 4_095, 4_095])),
+        3 => made(width * height, || 40 + random.below(12) as u16),
+        _ => made(width * height, || if random.chance(8) { random.below(4_096) as u16 } else { 0 }),
+    };
+    let threshold = random.pick(&[1, 2, 50, 51, 100, 2_000, 4_094, 4_095]);
+    let mut call = frame_of(entry, width, height, threshold, Buffer::of(&samples));
+    call.row = random.below(height) as u64;
+    call.column = random.below(width) as u64;
+    call
+}
+
+fn made(len: usize, mut element: impl FnMut() -> u16) -> Vec<u16> {
+    (0..len).map(|_| element()).collect()
+}
+
+/// Draws a star whose middle lies at x, y (in 1/256 pixel): the pixel it lies in, and a share of its
+/// light in the neighbours on the side it leans to.
+pub fn draw_star(call: &mut Call, x: i64, y: i64, peak: i64) {
+    let (column, lean_x) = nearest_pixel(x);
+    let (row, lean_y) = nearest_pixel(y);
+    let share = |lean: i64, step: i64| match step {
+        0 => 256,
+        _ if step == lean.signum() => 256 * lean.abs() / (256 - lean.abs()),
+        _ => 0,
+    };
+    for down in -1..=1 {
+        for right in -1..=1 {
+            let (r, c) = (row + down, column + right);
+            let light = peak * share(lean_x, right) / 256 * share(lean_y, down) / 256;
+            let inside = r >= 0 && c >= 0 && r < call.height as i64 && c < call.width as i64;
+            if inside && light > 0 {
+                set_pixel(call, r as usize, c as usize, light as u16);
+            }
+        }
+    }
+}
+
+/// The pixel a position is nearest to, and how far it leans from it.
+fn nearest_pixel(position: i64) -> (i64, i64) {
+    let pixel = (position + 128).div_euclid(256);
+    (pixel, position - 256 * pixel)
+}
+
+// Directions, catalogues, rankings.
+
+pub fn flat<const N: usize, T: Copy>(vectors: &[[T; N]]) -> Vec<T> {
+    vectors.iter().flatten().copied().collect()
+}
+
+pub fn random_stars(random: &Random, count: usize) -> Vec<[i32; 3]> {
+    (0..count).map(|_| sky::anywhere(random)).collect()
+}
+
+pub fn simple_stars(random: &Random, count: usize) -> Vec<[i32; 3]> {
+    (0..count).map(|_| sky::simple(random)).collect()
+}
+
+/// Rows that are all the record numbers in a row, each shuffled on its own.
+pub fn shuffled_ranking(random: &Random, directions: usize, stars: usize) -> Vec<u16> {
+    let mut ranking = rising_ranking(directions, stars);
+    for row in ranking.chunks_mut(stars) {
+        random.shuffle(row);
+    }
+    ranking
+}
+
+pub fn rising_ranking(directions: usize, stars: usize) -> Vec<u16> {
+    (0..directions).flat_map(|_| 0..stars as u16).collect()
+}
+
+/// The ranking our vote gives for these directions and stars.
+pub fn voted_ranking(directions: &[[i32; 3]], catalogue: &[u8], tolerance: u64) -> Vec<u16> {
+    let mut room = vec![0; directions.len() * (catalogue.len() / 16)];
+    ranking::ranking(&flat(directions), catalogue, tolerance.into(), &mut room)
+        .expect("directions and catalogue keep their rules");
+    room
+}
+
+/// Directions of some stars of a sky seen by a turned camera, with the record number of each (none for a
+/// false direction).
+pub struct View {
+    pub stars: Vec<[i32; 3]>,
+    pub directions: Vec<[i32; 3]>,
+    pub truth: Vec<Option<usize>>,
+}
+
+impl View {
+    pub fn of(random: &Random, stars: Vec<[i32; 3]>, directions: usize, false_directions: usize) -> View {
+        let turn = Turn::random(random);
+        let mut records: Vec<usize> = (0..stars.len()).collect();
+        random.shuffle(&mut records);
+        let mut truth: Vec<Option<usize>> = records.into_iter().map(Some).take(directions).collect();
+        truth.extend(vec![None; false_directions]);
+        random.shuffle(&mut truth);
+        let directions = truth
+            .iter()
+            .map(|record| match record {
+                Some(record) => turn.to_camera(stars[*record]),
+                None => sky::anywhere(random),
+            })
+            .collect();
+        View { stars, directions, truth }
+    }
+
+    /// The least tolerance for which all true pairs agree.
+    pub fn least_tolerance(&self) -> u64 {
+        let wide = |v: [i32; 3]| v.map(i128::from);
+        let mut least = 0;
+        for i in 0..self.directions.len() {
+            for j in 0..i {
+                if let (Some(a), Some(b)) = (self.truth[i], self.truth[j]) {
+                    let seen = dot(&wide(self.directions[i]), &wide(self.directions[j]));
+                    let known = dot(&wide(self.stars[a]), &wide(self.stars[b]));
+                    least = least.max((seen - known).unsigned_abs() as u64);
+                }
+            }
+        }
+        least
+    }
+
+    /// A search call; the tolerance lets the true match pass.
+    pub fn search(&self, random: &Random, needed: u64) -> Call {
+        let mut call = Call::new(Entry::Search);
+        call.directions = Buffer::of(&flat(&self.directions));
+        call.catalogue = Buffer::of(&sky::catalogue(random, &self.stars));
+        call.needed = needed;
+        call.tolerance = (self.least_tolerance() + random.pick(&[0, 1, 1_000_000_000, 100_000_000_000]))
+            .min(MOST_TOLERANCE);
+        call
+    }
+
+    /// Each row ends with its true star; a false direction's row is shuffled.
+    pub fn ranking_with_truth_last(&self, random: &Random) -> Vec<u16> {
+        let mut ranking = shuffled_ranking(random, self.directions.len(), self.stars.len());
+        for (row, star) in ranking.chunks_mut(self.stars.len()).zip(&self.truth) {
+            if let Some(star) = star {
+                row.sort_by_key(|&record| usize::from(record) == *star);
+            }
+        }
+        ranking
+    }
+}
+
+// The chain.
+
+/// What a scene for the whole chain should have.
+pub struct Scene {
+    pub width: usize,
+    pub height: usize,
+    /// Stars of the catalogue that are drawn.
+    pub visible: usize,
+    /// Stars drawn that the catalogue does not know.
+    pub unknown: usize,
+    /// Records of the catalogue, drawn or not.
+    pub records: usize,
+    pub equal_brightness: bool,
+    pub background: bool,
+}
+
+impl Scene {
+    /// A frame of a made-up sky seen by a turned camera, with the sky's catalogue. Fewer stars are drawn
+    /// where the frame has no place for more.
+    pub fn call(&self, random: &Random) -> Call {
+        let mut call = dark_frame(Entry::Chain, self.width, self.height, 60);
+        if self.background {
+            let noise = made(random.pick(&[13, 31, 61]), || random.below(20) as u16);
+            call.samples = Buffer::repeat(self.width * self.height, &noise);
+        }
+        let middle = |side: usize| 128 * side as i64;
+        call.cx = middle(self.width) + random.between(-300, 300);
+        call.cy = middle(self.height) + random.between(-300, 300);
+        call.focal = random.pick(&[16_384, random.between(16_384, 50_000), random.between(50_000, 400_000)]);
+        call.room = chain_room(random);
+
+        let turn = Turn::random(random);
+        let spots = self.spots(random);
+        let visible = self.visible.min(spots.len());
+        let mut stars: Vec<[i32; 3]> = spots[..visible]
+            .iter()
+            .map(|&(x, y)| turn.to_sky([x - call.cx, y - call.cy, call.focal].map(i128::from)))
+            .collect();
+        while stars.len() < self.records.max(1) {
+            stars.push(sky::anywhere(random));
+        }
+        let mut records: Vec<usize> = (0..stars.len()).collect();
+        random.shuffle(&mut records);
+        let in_order: Vec<[i32; 3]> = records.iter().map(|&k| stars[k]).collect();
+        call.catalogue = Buffer::of(&sky::catalogue(random, &in_order));
+
+        let equal_peak = random.between(500, 4_000);
+        for (k, &(x, y)) in spots.iter().enumerate() {
+            let peak = if self.equal_brightness { equal_peak } else { random.between(500, 4_000) };
+            let spot = match k < visible {
+                true => project(&call, turn.to_camera(stars[k])),
+                false => (x, y),
+            };
+            draw_star(&mut call, spot.0, spot.1, peak);
+        }
+        call.needed = 3 + random.below(visible.clamp(3, 8) - 2) as u64;
+        call.tolerance = scene_tolerance(random, &call, &spots[..visible], &stars);
+        call
+    }
+
+    /// Places for stars, far enough from each other and just clear of the edge.
+    fn spots(&self, random: &Random) -> Vec<(i64, i64)> {
+        let mut spots: Vec<(i64, i64)> = Vec::new();
+        for _ in 0..300 {
+            if spots.len() == self.visible + self.unknown {
+                break;
+            }
+            let x = random.between(3 * 256, 256 * (self.width as i64 - 4));
+            let y = random.between(3 * 256, 256 * (self.height as i64 - 4));
+            let far = |spot: &(i64, i64)| (spot.0 - x).abs().max((spot.1 - y).abs()) >= 7 * 256;
+            if spots.iter().all(far) {
+                spots.push((x, y));
+            }
+        }
+        spots
+    }
+}
+
+fn chain_room(random: &Random) -> Buffer<u16> {
+    let len = random.pick(&[4_096, 4_096, 4_097, 4_200]);
+    Buffer::repeat(len, &[random.below(65_536) as u16, 7, 65_535])
+}
+
+/// Where a direction of the camera falls on the frame.
+fn project(call: &Call, direction: [i32; 3]) -> (i64, i64) {
+    let [x, y, z] = direction.map(i64::from);
+    (call.cx + call.focal * x / z, call.cy + call.focal * y / z)
+}
+
+/// A tolerance that lets the true match pass, most often with room to spare.
+fn scene_tolerance(random: &Random, call: &Call, spots: &[(i64, i64)], stars: &[[i32; 3]]) -> u64 {
+    let set = call.settings();
+    let list = frame::list(&call.samples.values(), set.width, set.height, set.threshold)
+        .expect("the frame keeps its rules");
+    let mut view = View { stars: stars.to_vec(), directions: Vec::new(), truth: Vec::new() };
+    for star in &list.stars {
+        let near = |spot: &(i64, i64)| (spot.0 - star.x).abs().max((spot.1 - star.y).abs()) < 512;
+        let seen = direction::direction(set.cx, set.cy, set.focal, star.x.into(), star.y.into())
+            .expect("the settings keep their rules");
+        view.directions.push(seen.map(|component| component as i32));
+        view.truth.push(spots.iter().position(near));
+    }
+    let least = view.least_tolerance();
+    let tolerance = match random.below(10) {
+        0 => least,
+        1 => least.saturating_sub(1),
+        2 => least + least / 2 + 1,
+        _ => least + least / 16 + 1,
+    };
+    tolerance.min(MOST_TOLERANCE)
+}
+
+// Attitude.
+
+pub fn attitude_of(vectors: [[i64; 3]; 4]) -> Call {
+    let mut call = Call::new(Entry::Attitude);
+    call.vectors = Buffer::of(&flat(&vectors));
+    call
+}
+
+/// A vector with components of some number of bits, or on the sphere.
+pub fn any_vector(random: &Random) -> [i64; 3] {
+    if random.chance(40) {
+        return sky::anywhere(random).map(i64::from);
+    }
+    let reach = (1_i64 << random.between(10, 30)).min(1_000_000_000);
+    [0; 3].map(|_| match random.below(6) {
+        0 => random.pick(&[0, reach, -reach]),
+        _ => random.between(-reach, reach),
+    })
+}
+
+// Any call.
+
+/// A call of this kind, most often a sound one; about a third are damaged, some of them more than once.
+pub fn any_call(random: &Random, entry: Entry) -> Call {
+    let mut call = match entry {
+        Entry::Verdict | Entry::List => any_frame(random, entry),
+        Entry::Direction => any_direction(random),
+        Entry::Catalogue => any_catalogue(random),
+        Entry::Ranking => any_ranking(random),
+        Entry::Search => any_search(random),
+        Entry::Attitude => any_attitude(random),
+        Entry::Chain => any_chain(random),
+    };
+    if random.chance(35) {
+        for _ in 0..random.pick(&[1, 1, 1, 2, 3]) {
+            let reason = random.pick(entry.refusals());
+            damage(&mut call, reason, random);
+        }
+    }
+    call
+}
+
+fn any_frame(random: &Random, entry: Entry) -> Call {
+    if random.below(500) == 0 {
+        let noise = made(1_021, || random.below(100) as u16);
+        let (width, height) = random.pick(&[(1_024, 1_024), (1_024, 500), (333, 1_024)]);
+        return frame_of(entry, width, height, 60, Buffer::repeat(width * height, &noise));
+    }
+    if random.chance(90) {
+        return small_frame(random, entry);
+    }
+    let mut call = star_field(random, entry, 20, 3);
+    call.row = random.below(call.height as usize) as u64;
+    call.column = random.below(call.width as usize) as u64;
+    call
+}
+
+/// A frame of a middle size with stars anywhere, at the sides too.
+pub fn star_field(random: &Random, entry: Entry, most_stars: usize, brightnesses: usize) -> Call {
+    let (width, height) = random.pick(&[(160, 120), (64, 48), (200, 160), (31, 90), (1_024, 7), (7, 1_024)]);
+    let mut call = dark_frame(entry, width, height, 50);
+    if random.chance(50) {
+        let noise = made(random.pick(&[7, 29, 53]), || random.below(30) as u16);
+        call.samples = Buffer::repeat(width * height, &noise);
+    }
+    for _ in 0..1 + random.below(most_stars) {
+        let x = random.between(0, 256 * (width as i64 - 1));
+        let y = random.between(0, 256 * (height as i64 - 1));
+        draw_star(&mut call, x, y, 4_095 - 300 * random.below(brightnesses) as i64);
+    }
+    call
+}
+
+fn any_direction(random: &Random) -> Call {
+    let mut call = Call::new(Entry::Direction);
+    let place = |random: &Random| match random.below(8) {
+        0 => random.pick(&[0, 1, 261_887, 261_888]),
+        _ => random.between(0, 261_888),
+    };
+    call.cx = place(random);
+    call.cy = place(random);
+    call.x = place(random);
+    call.y = place(random);
+    call.focal = match random.below(4) {
+        0 => random.pick(&[16_384, 16_385, 4_194_303, 4_194_304]),
+        1 => random.between(16_384, 100_000),
+        _ => random.between(16_384, 4_194_304),
+    };
+    call
+}
+
+fn any_stars(random: &Random, most: usize) -> Vec<[i32; 3]> {
+    let count = 1 + random.below(most);
+    match random.below(3) {
+        0 => simple_stars(random, count),
+        1 => {
+            // A crowded patch of sky.
+            let middle = sky::anywhere(random);
+            let closeness = random.pick(&[5, 100, 1_000_000, 1_000_000_000]);
+            (0..count).map(|_| sky::near(random, middle, closeness)).collect()
+        }
+        _ => random_stars(random, count),
+    }
+}
+
+fn any_catalogue(random: &Random) -> Call {
+    let mut call = Call::new(Entry::Catalogue);
+    let most = random.pick(&[3, 20, 100]);
+    let stars = any_stars(random, most);
+    call.catalogue = Buffer::of(&sky::catalogue(random, &stars));
+    call
+}
+
+fn any_tolerance(random: &Random) -> u64 {
+    match random.below(6) {
+        0 => 0,
+        1 => MOST_TOLERANCE,
+        2 => random.below(10_000_000_000) as u64,
+        _ => random.next() % (1 << random.between(1, 53)),
+    }
+}
+
+fn any_ranking(random: &Random) -> Call {
+    let mut call = Call::new(Entry::Ranking);
+    let most = if random.below(100) == 0 { 512 } else { 30 };
+    let stars = any_stars(random, most);
+    let mut directions: Vec<[i32; 3]> = (0..random.below(9))
+        .map(|_| match random.below(4) {
+            0 => any_vector(random).map(|component| component as i32),
+            1 => sky::simple(random),
+            _ => random.pick(&stars),
+        })
+        .collect();
+    if random.chance(50) {
+        let turn = Turn::random(random);
+        directions.iter_mut().for_each(|v| *v = turn.to_camera(*v));
+    }
+    call.directions = Buffer::of(&flat(&directions));
+    call.catalogue = Buffer::of(&sky::catalogue(random, &stars));
+    call.tolerance = any_tolerance(random);
+    let words = directions.len() * stars.len() + random.pick(&[0, 0, 1, 5, 200]);
+    call.room = Buffer::repeat(words, &[60_000, 7, 1]);
+    call
+}
+
+fn any_search(random: &Random) -> Call {
+    let most = random.pick(&[5, 12, 25]);
+    let mut stars = any_stars(random, most);
+    while stars.len() < 3 {
+        stars.push(sky::anywhere(random));
+    }
+    let known = 3 + random.below(stars.len().min(8) - 2);
+    let unknown = random.below(8 - known + 1).min(2);
+    let view = View::of(random, stars, known, unknown);
+    let needed = 3 + random.below(known - 2) as u64;
+    let mut call = view.search(random, needed);
+    if random.chance(20) {
+        call.tolerance = any_tolerance(random);
+    }
+    let catalogue = call.catalogue.values();
+    let (directions, stars) = (view.directions.len(), view.stars.len());
+    call.ranking = Buffer::of(&match random.below(4) {
+        0 => rising_ranking(directions, stars),
+        1 => view.ranking_with_truth_last(random),
+        2 => shuffled_ranking(random, directions, stars),
+        _ => voted_ranking(&view.directions, &catalogue, call.tolerance),
+    });
+    call
+}
+
+fn any_attitude(random: &Random) -> Call {
+    let pair = || {
+        let first = any_vector(random);
+        let second = match random.below(16) {
+            0 => first,
+            1 => first.map(|component| -component),
+            2 => first
+                .map(|component| (component + random.between(-3, 3)).clamp(-1_000_000_000, 1_000_000_000)),
+            _ => any_vector(random),
+        };
+        [first, second]
+    };
+    let (camera, sky) = (pair(), pair());
+    attitude_of([camera[0], camera[1], sky[0], sky[1]])
+}
+
+fn any_chain(random: &Random) -> Call {
+    let (width, height) = random.pick(&[(160, 120), (64, 64), (80, 60), (24, 40), (200, 160)]);
+    let scene = Scene {
+        width,
+        height,
+        visible: 2 + random.below(7),
+        unknown: random.pick(&[0, 0, 0, 1, 2]),
+        records: if random.below(100) == 0 { 512 } else { random.pick(&[3, 8, 20, 40]) },
+        equal_brightness: random.chance(25),
+        background: random.chance(40),
+    };
+    let mut call = scene.call(random);
+    match random.below(10) {
+        // Another sky: most often nothing fits.
+        0 => {
+            let stars = random_stars(random, scene.records);
+            call.catalogue = Buffer::of(&sky::catalogue(random, &stars));
+        }
+        // A narrow view of a sky where everything agrees and some stars stand in one place.
+        1 => {
+            let patch = sky::anywhere(random);
+            let places = [patch, sky::near(random, patch, 1_000), sky::near(random, patch, 1_000_000_000)];
+            let stars: Vec<[i32; 3]> = (0..3 + random.below(6)).map(|_| random.pick(&places)).collect();
+            call.catalogue = Buffer::of(&sky::catalogue(random, &stars));
+            call.focal = random.pick(&[4_194_304, 1_000_000]);
+            call.tolerance = MOST_TOLERANCE;
+        }
+        _ => {}
+    }
+    call
+}

@@ -1,0 +1,140 @@
+//! The proved library, called through its C interface.
+
+use crate::call::{Call, Entry, Lent};
+
+// A slice is a pointer and a length in elements; each call writes its answer into `out`.
+extern "C" {
+    fn mnemathor_verdict(
+        samples: *const u16,
+        samples_len: usize,
+        width: usize,
+        height: usize,
+        threshold: usize,
+        row: usize,
+        column: usize,
+        out: *mut i64,
+        out_len: usize,
+    );
+    fn mnemathor_list(
+        samples: *const u16,
+        samples_len: usize,
+        width: usize,
+        height: usize,
+        threshold: usize,
+        out: *mut i64,
+        out_len: usize,
+    );
+    fn mnemathor_direction(cx: i64, cy: i64, f: i64, x: i64, y: i64, out: *mut i64, out_len: usize);
+    fn mnemathor_catalogue(bytes: *const u8, bytes_len: usize, out: *mut i64, out_len: usize);
+    fn mnemathor_ranking(
+        directions: *const i32,
+        directions_len: usize,
+        catalogue: *const u8,
+        catalogue_len: usize,
+        tolerance: u64,
+        room: *mut u16,
+        room_len: usize,
+        out: *mut i64,
+        out_len: usize,
+    );
+    fn mnemathor_search(
+        directions: *const i32,
+        directions_len: usize,
+        catalogue: *const u8,
+        catalogue_len: usize,
+        needed: usize,
+        tolerance: u64,
+        ranking: *const u16,
+        ranking_len: usize,
+        out: *mut i64,
+        out_len: usize,
+    );
+    fn mnemathor_attitude(vectors: *const i64, vectors_len: usize, out: *mut i64, out_len: usize);
+    fn mnemathor_chain(
+        samples: *const u16,
+        samples_len: usize,
+        width: usize,
+        height: usize,
+        threshold: usize,
+        cx: i64,
+        cy: i64,
+        f: i64,
+        catalogue: *const u8,
+        catalogue_len: usize,
+        needed: usize,
+        tolerance: u64,
+        room: *mut u16,
+        room_len: usize,
+        out: *mut i64,
+        out_len: usize,
+    );
+}
+
+/// Makes the call with the buffers lent and this room for the numbers. All buffers are lent as memory that
+/// may change, so that a call that wrote where it must not would be seen.
+pub fn run(call: &Call, lent: &mut Lent, out: &mut [i64]) {
+    let (width, height, threshold) = (call.width as usize, call.height as usize, call.threshold as usize);
+    let (row, column, needed) = (call.row as usize, call.column as usize, call.needed as usize);
+    let samples = (lent.samples.as_mut_ptr(), lent.samples.len());
+    let directions = (lent.directions.as_mut_ptr(), lent.directions.len());
+    let catalogue = (lent.catalogue.as_mut_ptr(), lent.catalogue.len());
+    let ranking = (lent.ranking.as_mut_ptr(), lent.ranking.len());
+    let room = (lent.room.as_mut_ptr(), lent.room.len());
+    let vectors = (lent.vectors.as_mut_ptr(), lent.vectors.len());
+    let out = (out.as_mut_ptr(), out.len());
+    // Safe as long as the library keeps to the lengths: every pointer is to a live buffer of that length.
+    unsafe {
+        match call.entry {
+            Entry::Verdict => {
+                mnemathor_verdict(samples.0, samples.1, width, height, threshold, row, column, out.0, out.1)
+            }
+            Entry::List => mnemathor_list(samples.0, samples.1, width, height, threshold, out.0, out.1),
+            Entry::Direction => {
+                mnemathor_direction(call.cx, call.cy, call.focal, call.x, call.y, out.0, out.1)
+            }
+            Entry::Catalogue => mnemathor_catalogue(catalogue.0, catalogue.1, out.0, out.1),
+            Entry::Ranking => mnemathor_ranking(
+                directions.0,
+                directions.1,
+                catalogue.0,
+                catalogue.1,
+                call.tolerance,
+                room.0,
+                room.1,
+                out.0,
+                out.1,
+            ),
+            Entry::Search => mnemathor_search(
+                directions.0,
+                directions.1,
+                catalogue.0,
+                catalogue.1,
+                needed,
+                call.tolerance,
+                ranking.0,
+                ranking.1,
+                out.0,
+                out.1,
+            ),
+            Entry::Attitude => mnemathor_attitude(vectors.0, vectors.1, out.0, out.1),
+            Entry::Chain => mnemathor_chain(
+                samples.0,
+                samples.1,
+                width,
+                height,
+                threshold,
+                call.cx,
+                call.cy,
+                call.focal,
+                catalogue.0,
+                catalogue.1,
+                needed,
+                call.tolerance,
+                room.0,
+                room.1,
+                out.0,
+                out.1,
+            ),
+        }
+    }
+}

@@ -1,0 +1,139 @@
+//! Stands in for the proved library's archive: its C functions, built on plain Rust. It lets `compare` and
+//! `bench` be tried without the archive.
+
+use crate::answer::{numbers, Answer, Refusal};
+use crate::plain;
+use std::slice::{from_raw_parts, from_raw_parts_mut};
+
+/// Writes the 64 numbers of the answer; with a shorter room nothing is done.
+unsafe fn answer<T: Answer>(out: *mut i64, out_len: usize, call: impl FnOnce() -> Result<T, Refusal>) {
+    if out_len >= 64 {
+        from_raw_parts_mut(out, 64).copy_from_slice(&numbers(&call()));
+    }
+}
+
+#[no_mangle]
+unsafe extern "C" fn mnemathor_verdict(
+    samples: *const u16,
+    samples_len: usize,
+    width: usize,
+    height: usize,
+    threshold: usize,
+    row: usize,
+    column: usize,
+    out: *mut i64,
+    out_len: usize,
+) {
+    let samples = from_raw_parts(samples, samples_len);
+    answer(out, out_len, || plain::verdict(samples, width, height, threshold, row, column));
+}
+
+#[no_mangle]
+unsafe extern "C" fn mnemathor_list(
+    samples: *const u16,
+    samples_len: usize,
+    width: usize,
+    height: usize,
+    threshold: usize,
+    out: *mut i64,
+    out_len: usize,
+) {
+    let samples = from_raw_parts(samples, samples_len);
+    answer(out, out_len, || plain::list(samples, width, height, threshold));
+}
+
+#[no_mangle]
+unsafe extern "C" fn mnemathor_direction(
+    cx: i64,
+    cy: i64,
+    f: i64,
+    x: i64,
+    y: i64,
+    out: *mut i64,
+    out_len: usize,
+) {
+    answer(out, out_len, || plain::direction(cx, cy, f, x, y));
+}
+
+#[no_mangle]
+unsafe extern "C" fn mnemathor_catalogue(bytes: *const u8, bytes_len: usize, out: *mut i64, out_len: usize) {
+    let bytes = from_raw_parts(bytes, bytes_len);
+    answer(out, out_len, || plain::catalogue(bytes));
+}
+
+#[no_mangle]
+unsafe extern "C" fn mnemathor_ranking(
+    directions: *const i32,
+    directions_len: usize,
+    catalogue: *const u8,
+    catalogue_len: usize,
+    tolerance: u64,
+    room: *mut u16,
+    room_len: usize,
+    out: *mut i64,
+    out_len: usize,
+) {
+    let directions = from_raw_parts(directions, directions_len);
+    let catalogue = from_raw_parts(catalogue, catalogue_len);
+    let room = from_raw_parts_mut(room, room_len);
+    answer(out, out_len, || plain::ranking(directions, catalogue, tolerance, room));
+}
+
+#[no_mangle]
+unsafe extern "C" fn mnemathor_search(
+    directions: *const i32,
+    directions_len: usize,
+    catalogue: *const u8,
+    catalogue_len: usize,
+    needed: usize,
+    tolerance: u64,
+    ranking: *const u16,
+    ranking_len: usize,
+    out: *mut i64,
+    out_len: usize,
+) {
+    let directions = from_raw_parts(directions, directions_len);
+    let catalogue = from_raw_parts(catalogue, catalogue_len);
+    let ranking = from_raw_parts(ranking, ranking_len);
+    answer(out, out_len, || plain::search(directions, catalogue, needed, tolerance, ranking));
+}
+
+#[no_mangle]
+unsafe extern "C" fn mnemathor_attitude(
+    vectors: *const i64,
+    vectors_len: usize,
+    out: *mut i64,
+    out_len: usize,
+) {
+    // Another length than twelve: nothing is done.
+    if let Ok(vectors) = from_raw_parts(vectors, vectors_len).try_into() {
+        answer(out, out_len, || plain::attitude(vectors));
+    }
+}
+
+#[no_mangle]
+unsafe extern "C" fn mnemathor_chain(
+    samples: *const u16,
+    samples_len: usize,
+    width: usize,
+    height: usize,
+    threshold: usize,
+    cx: i64,
+    cy: i64,
+    f: i64,
+    catalogue: *const u8,
+    catalogue_len: usize,
+    needed: usize,
+    tolerance: u64,
+    room: *mut u16,
+    room_len: usize,
+    out: *mut i64,
+    out_len: usize,
+) {
+    let samples = from_raw_parts(samples, samples_len);
+    let catalogue = from_raw_parts(catalogue, catalogue_len);
+    let room = from_raw_parts_mut(room, room_len);
+    answer(out, out_len, || {
+        plain::chain(samples, width, height, threshold, cx, cy, f, catalogue, needed, tolerance, room)
+    });
+}

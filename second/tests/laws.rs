@@ -1,0 +1,214 @@
+//! Laws that hold of any input: roots, verdicts and lists, votes and rows, the search against its
+//! definition.
+
+use second::answer::{Assignment, Kind};
+use second::call::Entry;
+use second::generate::{
+    flat, random_stars, rising_ranking, shuffled_ranking, simple_stars, small_frame, View,
+};
+use second::random::Random;
+use second::sky::{self, record};
+use second::{catalogue, dot, frame, ranking, root, search};
+
+#[test]
+fn root_is_the_greatest_whole_number_within() {
+    let random = Random::new(1);
+    let check = |n: i128| {
+        let r = root(n);
+        assert!(r * r <= n && n < (r + 1) * (r + 1));
+    };
+    (0..2_000).for_each(check);
+    for _ in 0..2_000 {
+        let r = i128::from(random.between(0, 1 << 40));
+        [r * r, r * r + 1, (r * r - 1).max(0), r * r + 2 * r].into_iter().for_each(check);
+    }
+}
+
+#[test]
+fn limits_of_the_square_are_exact() {
+    let off = |v: [i32; 3]| {
+        let wide = v.map(i128::from);
+        dot(&wide, &wide) - 1_000_000_000_000_000_000
+    };
+    assert_eq!(off(sky::LONGEST), 4_000_000_000);
+    assert_eq!(off(sky::SHORTEST), -4_000_000_000);
+    assert_eq!(off(sky::TOO_LONG), 4_000_000_001);
+    assert_eq!(off(sky::TOO_SHORT), -4_000_000_002);
+    assert!(catalogue::catalogue(&record(0, sky::LONGEST)).is_ok());
+    assert!(catalogue::catalogue(&record(0, sky::SHORTEST)).is_ok());
+    assert!(catalogue::catalogue(&record(0, sky::TOO_LONG)).is_err());
+    assert!(catalogue::catalogue(&record(0, sky::TOO_SHORT)).is_err());
+}
+
+#[test]
+fn made_up_stars_keep_the_catalogue_rule() {
+    let random = Random::new(2);
+    for _ in 0..2_000 {
+        let mut star = sky::anywhere(&random);
+        if random.chance(50) {
+            star = sky::near(&random, star, 1_000);
+        }
+        assert!(catalogue::catalogue(&record(1, star)).is_ok(), "{star:?}");
+        assert!(catalogue::catalogue(&record(1, sky::simple(&random))).is_ok());
+    }
+}
+
+#[test]
+fn list_is_made_of_the_verdicts() {
+    let random = Random::new(3);
+    for _ in 0..300 {
+        let call = small_frame(&random, Entry::List);
+        let (samples, set) = (call.samples.values(), call.settings());
+        let list = frame::list(&samples, set.width, set.height, set.threshold).unwrap();
+        let mut measured = Vec::new();
+        let (mut edge, mut flat) = (0, 0);
+        for row in 0..set.height {
+            for column in 0..set.width {
+                match frame::verdict(&samples, set.width, set.height, set.threshold, row, column)
+                    .unwrap()
+                    .kind
+                {
+                    Kind::Measured(star) => measured.push(star),
+                    Kind::Edge => edge += 1,
+                    Kind::Flat => flat += 1,
+                    Kind::Dark | Kind::Beaten => {}
+                }
+            }
+        }
+        assert_eq!((list.measured, list.edge, list.flat), (measured.len(), edge, flat));
+        assert_eq!(list.stars.len(), measured.len().min(8));
+        // A star's place: those brighter, and those equal that come before it in row order.
+        for (k, star) in measured.iter().enumerate() {
+            let before = |j: usize| {
+                measured[j].brightness > star.brightness
+                    || (measured[j].brightness == star.brightness && j < k)
+            };
+            let place = (0..measured.len()).filter(|&j| before(j)).count();
+            assert_eq!(list.stars.get(place), (place < 8).then_some(star));
+        }
+    }
+}
+
+/// The votes, word for word from the rule.
+fn votes(directions: &[[i128; 3]], i: usize, stars: &[[i128; 3]], a: usize, tolerance: i128) -> usize {
+    let mut count = 0;
+    for j in 0..directions.len() {
+        for b in 0..stars.len() {
+            let difference = dot(&directions[i], &directions[j]) - dot(&stars[a], &stars[b]);
+            if j != i && b != a && -tolerance <= difference && difference <= tolerance {
+                count += 1;
+            }
+        }
+    }
+    count
+}
+
+#[test]
+fn rows_are_sorted_by_votes() {
+    let random = Random::new(4);
+    for round in 0..120 {
+        let count = 1 + random.below(15);
+        let stars = if round % 2 == 0 { simple_stars(&random, count) } else { random_stars(&random, count) };
+        let false_directions = random.below(3);
+        let view = View::of(&random, stars, random.below(7), false_directions);
+        let tolerance = random.pick(&[0, 1_000_000_000_000, 10_000_000_000_000_000]);
+        let words = view.directions.len() * count;
+        let mut room = vec![60_000; words + 3];
+        let bytes = sky::catalogue(&random, &view.stars);
+        ranking::ranking(&flat(&view.directions), &bytes, tolerance, &mut room).unwrap();
+        assert_eq!(room[words..], [60_000; 3]);
+
+        let directions: Vec<[i128; 3]> = view.directions.iter().map(|v| v.map(i128::from)).collect();
+        let stars: Vec<[i128; 3]> = view.stars.iter().map(|v| v.map(i128::from)).collect();
+        for (i, row) in room[..words].chunks(count).enumerate() {
+            let key = |record: u16| {
+                let votes = votes(&directions, i, &stars, record.into(), tolerance);
+                (-(votes as i64), record)
+            };
+            // Strictly rising keys: sorted, and no record twice.
+            assert!(row.windows(2).all(|pair| key(pair[0]) < key(pair[1])));
+            assert!(row.iter().all(|&record| usize::from(record) < count));
+        }
+    }
+}
+
+/// The definition of the search on tiny cases: all assignments, those that fit, the first of them.
+fn first_by_definition(
+    directions: &[[i32; 3]],
+    stars: &[[i32; 3]],
+    needed: usize,
+    tolerance: i128,
+    rows: &[&[u16]],
+) -> Option<Assignment> {
+    let wide = |v: [i32; 3]| v.map(i128::from);
+    let agree = |i: usize, j: usize, a: usize, b: usize| {
+        let seen = dot(&wide(directions[i]), &wide(directions[j]));
+        let known = dot(&wide(stars[a]), &wide(stars[b]));
+        (seen - known).abs() <= tolerance
+    };
+    let fits = |assignment: &Assignment| {
+        let assigned: Vec<(usize, usize)> =
+            assignment.iter().enumerate().filter_map(|(i, star)| Some((i, (*star)?))).collect();
+        let all_pairs = assigned
+            .iter()
+            .enumerate()
+            .all(|(k, &(i, a))| assigned[..k].iter().all(|&(j, b)| a != b && agree(i, j, a, b)));
+        all_pairs && assigned.len() >= needed
+    };
+    let place = |i: usize, star: Option<usize>| match star {
+        None => usize::MAX,
+        Some(star) => rows[i].iter().position(|&entry| usize::from(entry) == star).unwrap(),
+    };
+    every_assignment(directions.len(), stars.len()).into_iter().filter(fits).min_by_key(|assignment| {
+        assignment.iter().enumerate().map(|(i, star)| place(i, *star)).collect::<Vec<_>>()
+    })
+}
+
+fn every_assignment(directions: usize, stars: usize) -> Vec<Assignment> {
+    let mut all = vec![Vec::new()];
+    for _ in 0..directions {
+        all = all
+            .into_iter()
+            .flat_map(|begun: Assignment| {
+                (0..stars).map(Some).chain([None]).map(move |choice| {
+                    let mut longer = begun.clone();
+                    longer.push(choice);
+                    longer
+                })
+            })
+            .collect();
+    }
+    all
+}
+
+#[test]
+fn search_gives_the_first_assignment_that_fits() {
+    let random = Random::new(5);
+    let (mut found, mut none) = (0, 0);
+    for round in 0..600 {
+        let count = 3 + random.below(2);
+        let stars = if round % 3 == 0 { random_stars(&random, count) } else { simple_stars(&random, count) };
+        let known = 2 + random.below(3);
+        let view = View::of(&random, stars, known.min(count), random.below(2));
+        if view.directions.len() < 3 {
+            continue;
+        }
+        let needed = 3 + random.below(view.directions.len() - 2);
+        let tolerance = i128::from(random.pick(&[view.least_tolerance(), 0, 10_000_000_000_000_000]));
+        let words = if random.chance(50) {
+            shuffled_ranking(&random, view.directions.len(), count)
+        } else {
+            rising_ranking(view.directions.len(), count)
+        };
+        let rows: Vec<&[u16]> = words.chunks(count).collect();
+        let expected = first_by_definition(&view.directions, &view.stars, needed, tolerance, &rows);
+        let bytes = sky::catalogue(&random, &view.stars);
+        let answer = search::search(&flat(&view.directions), &bytes, needed as i128, tolerance, &words);
+        match &expected {
+            Some(_) => found += 1,
+            None => none += 1,
+        }
+        assert_eq!(answer.map_err(|refusal| refusal.number), expected.ok_or(13));
+    }
+    assert!(found > 100 && none > 50, "{found} found, {none} without an answer");
+}

@@ -1,0 +1,166 @@
+//! The program's listing: the whole one of the scope document, and what refusals print.
+
+use second::listing::listing;
+use second::sky::record;
+
+const LEFT: [i32; 3] = [-600_000_000, 0, 800_000_000];
+const RIGHT: [i32; 3] = [600_000_000, 0, 800_000_000];
+const BELOW: [i32; 3] = [0, 600_000_000, 800_000_000];
+
+/// The three files of a run.
+#[derive(Clone)]
+struct Files {
+    settings: Vec<u8>,
+    catalogue: Vec<u8>,
+    frame: Vec<u8>,
+}
+
+impl Files {
+    /// The files of the document's listing.
+    fn of_document() -> Files {
+        let mut files = Files {
+            settings: settings(160, 120, 50, 3, [20_480, 15_360, 16_384], 0),
+            catalogue: [record(11, LEFT), record(22, RIGHT), record(33, BELOW)].concat(),
+            frame: vec![0; 2 * 160 * 120],
+        };
+        for (row, column) in [(60, 32), (60, 128), (108, 80)] {
+            files.set_sample(160 * row + column, 100);
+        }
+        files
+    }
+
+    fn set_sample(&mut self, index: usize, sample: u16) {
+        self.frame[2 * index..2 * index + 2].copy_from_slice(&sample.to_be_bytes());
+    }
+
+    fn listing(&self) -> String {
+        listing(&self.settings, &self.catalogue, &self.frame)
+    }
+}
+
+fn settings(
+    width: u16,
+    height: u16,
+    threshold: u16,
+    needed: u16,
+    optics: [u32; 3],
+    tolerance: u64,
+) -> Vec<u8> {
+    let mut bytes: Vec<u8> =
+        [width, height, threshold, needed].iter().flat_map(|n| n.to_be_bytes()).collect();
+    bytes.extend(optics.iter().flat_map(|n| n.to_be_bytes()));
+    bytes.extend([1, 2, 3, 4]);
+    bytes.extend(tolerance.to_be_bytes());
+    bytes
+}
+
+#[test]
+fn whole_listing() {
+    let expected = "measured 3 edge 0 flat 0\n\
+                    0 8192 15360 2400 11\n\
+                    1 32768 15360 2400 22\n\
+                    2 20480 27648 2400 33\n\
+                    1000000000 0 0\n\
+                    0 1000000000 0\n\
+                    0 0 1000000000\n";
+    assert_eq!(Files::of_document().listing(), expected);
+}
+
+#[test]
+fn unassigned_star_shows_a_dash() {
+    let mut files = Files::of_document();
+    files.set_sample(160 * 20 + 20, 90);
+    let shown = files.listing();
+    assert!(shown.starts_with("measured 4 edge 0 flat 0\n"));
+    assert!(shown.contains("\n3 5120 5120 2160 -\n1000000000 0 0\n"));
+}
+
+#[test]
+fn refusal_12_prints_the_first_lines() {
+    let mut files = Files::of_document();
+    files.settings[7] = 4;
+    let expected = "measured 3 edge 0 flat 0\n\
+                    0 8192 15360 2400 -\n\
+                    1 32768 15360 2400 -\n\
+                    2 20480 27648 2400 -\n\
+                    refused 12 0\n";
+    assert_eq!(files.listing(), expected);
+    files.frame.fill(0);
+    assert_eq!(files.listing(), "measured 0 edge 0 flat 0\nrefused 12 0\n");
+}
+
+#[test]
+fn refusal_13_prints_the_first_lines() {
+    let mut files = Files::of_document();
+    files.catalogue = [record(11, LEFT), record(22, RIGHT)].concat();
+    let expected = "measured 3 edge 0 flat 0\n\
+                    0 8192 15360 2400 -\n\
+                    1 32768 15360 2400 -\n\
+                    2 20480 27648 2400 -\n\
+                    refused 13 0\n";
+    assert_eq!(files.listing(), expected);
+}
+
+#[test]
+fn refusal_14_shows_the_stars_found() {
+    let mut files = Files::of_document();
+    // A narrow view, a wide tolerance, and stars that all stand in one place.
+    files.settings = settings(160, 120, 50, 3, [20_480, 15_360, 4_194_304], 10_000_000_000_000_000);
+    files.catalogue = [record(11, LEFT), record(22, LEFT), record(33, LEFT)].concat();
+    let expected = "measured 3 edge 0 flat 0\n\
+                    0 8192 15360 2400 11\n\
+                    1 32768 15360 2400 22\n\
+                    2 20480 27648 2400 33\n\
+                    refused 14 0\n";
+    assert_eq!(files.listing(), expected);
+}
+
+#[test]
+fn earlier_refusals_print_one_line() {
+    let sound = Files::of_document();
+    let refused = |damage: &dyn Fn(&mut Files)| {
+        let mut files = sound.clone();
+        damage(&mut files);
+        files.listing()
+    };
+    let narrow_optics = [20_480, 15_360, 16_384];
+    assert_eq!(refused(&|f| f.settings.clear()), "refused 1 0\n");
+    assert_eq!(refused(&|f| f.settings.push(0)), "refused 1 0\n");
+    assert_eq!(refused(&|f| f.settings = settings(6, 120, 50, 3, narrow_optics, 0)), "refused 1 0\n");
+    assert_eq!(refused(&|f| f.frame.clear()), "refused 2 0\n");
+    assert_eq!(refused(&|f| f.frame.push(0)), "refused 2 0\n");
+    assert_eq!(
+        refused(&|f| {
+            // 200 x 161 samples are more than the program takes.
+            f.settings = settings(200, 161, 50, 3, narrow_optics, 0);
+            f.frame = vec![0; 2 * 200 * 161];
+        }),
+        "refused 2 0\n"
+    );
+    assert_eq!(refused(&|f| f.settings[5] = 0), "refused 3 0\n");
+    assert_eq!(refused(&|f| f.set_sample(77, 4_096)), "refused 4 77\n");
+    assert_eq!(refused(&|f| f.settings[8] = 255), "refused 5 0\n");
+    assert_eq!(refused(&|f| f.catalogue.clear()), "refused 6 0\n");
+    assert_eq!(refused(&|f| f.catalogue[35] = 22), "refused 7 2\n");
+    assert_eq!(refused(&|f| f.settings[7] = 2), "refused 9 0\n");
+    assert_eq!(refused(&|f| f.settings[24] = 255), "refused 9 0\n");
+    // Several at once: the lowest number is given.
+    assert_eq!(
+        refused(&|f| {
+            f.settings[7] = 2;
+            f.catalogue.clear();
+            f.set_sample(3, 65_535);
+        }),
+        "refused 4 3\n"
+    );
+}
+
+#[test]
+fn the_largest_frame_is_taken() {
+    let files = Files {
+        settings: settings(200, 160, 50, 3, [20_480, 15_360, 16_384], 0),
+        catalogue: record(0, LEFT).to_vec(),
+        frame: vec![0; 2 * 32_000],
+    };
+    assert_eq!(files.listing(), "measured 0 edge 0 flat 0\nrefused 12 0\n");
+}

@@ -1,0 +1,33 @@
+//! Plain Rust gives what the wide implementation gives: random calls of every kind, damaged ones too.
+
+use second::call::{Call, ENTRIES};
+use second::generate::any_call;
+use second::random::Random;
+use second::search::Effort;
+
+fn calls(seed: u64, count: usize) -> impl Iterator<Item = Call> {
+    let random = Random::new(seed);
+    (0..count).flat_map(move |_| ENTRIES.map(|entry| any_call(&random, entry)))
+}
+
+#[test]
+fn plain_equals_wide() {
+    let mut accepted = [0; 8];
+    let mut refused = [[0; 16]; 8];
+    for call in calls(6, 1_000) {
+        let Ok(wide) = call.run_wide(&mut Effort::up_to(200_000)) else {
+            continue;
+        };
+        assert_eq!(call.run_plain(), wide, "{:?} {:?}", call.entry, call.scalars());
+        match wide.out[0] {
+            0 => accepted[call.entry.index()] += 1,
+            number => refused[call.entry.index()][number as usize] += 1,
+        }
+    }
+    for entry in ENTRIES {
+        assert!(accepted[entry.index()] > 200, "{entry:?} accepted {}", accepted[entry.index()]);
+        for &number in entry.refusals() {
+            assert!(refused[entry.index()][usize::from(number)] > 0, "{entry:?} never refused with {number}");
+        }
+    }
+}
