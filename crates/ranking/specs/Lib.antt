@@ -3,3 +3,7 @@ pub mod Row
 pub mod Ranking
 pub mod Places
 pub mod Laws
+pub mod Refusals
+pub mod RefusalSteps
+pub mod Room
+pub mod RoomLaws

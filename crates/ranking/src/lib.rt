@@ -1,12 +1,15 @@
 // The ranking: one row of record numbers for each direction, by votes, in the lent room.
+mod refused;
 mod row;
 
+use refusal::Outcome;
 ghost use mathlib.Core.Path.{_≡_};
 ghost use mathlib.Core.List.{_++_};
 ghost use Prim.Native.Nat.{_*_, _<_, _≤_};
 ghost use lib.ListN.{length, drop};
 ghost use Rattle.votes.specs.Votes.{triples, Listed};
 ghost use Rattle.ranking.specs.Ranking.{rowOf, rankingOf};
+ghost use Rattle.ranking.specs.Room.{rankOutcomeOf, roomAfter};
 
 // One row: the votes for direction i are collected, and the stars ranked by them.
 fn write_row(directions: &[i32], stars: &[i32], tolerance: u64, i: usize, row: &mut [u16])
@@ -34,5 +37,22 @@ pub fn write_ranking(directions: &[i32], stars: &[i32], tolerance: u64, room: &m
         let to = from + words;
         write_row(directions, stars, tolerance, i, &mut room[from..to]);
         i += 1;
+    }
+}
+
+// The ranking of a catalogue's stars for each direction, written into the room.
+pub fn rank(directions: &[i32], catalogue: &[u8], tolerance: u64, room: &mut [u16]) -> Outcome
+    ensures { λ r. ⌜ r ≡ rankOutcomeOf (now (directions .entry)) (now (catalogue .entry)) tolerance (now (room .entry)) ⌝ }
+    ensures { λ r. ⌜ now (room .exit) ≡ roomAfter (now (directions .entry)) (now (catalogue .entry)) tolerance (now (room .entry)) ⌝ }
+{
+    let outcome = refused::lowest(directions, catalogue, tolerance, room.len());
+    match outcome {
+        Outcome::Refused(r) => Outcome::Refused(r),
+        Outcome::Accepted => {
+            let numbers = catalogue::stars(catalogue);
+            let end = 3 * catalogue::records(catalogue);
+            write_ranking(directions, &numbers[..end], tolerance, room);
+            Outcome::Accepted
+        }
     }
 }

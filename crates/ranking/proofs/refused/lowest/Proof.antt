@@ -1,0 +1,47 @@
+-- `refused::lowest` meets its contract: the catalogue's refusal, or the lowest of the rest. Assumes nothing.
+use borrow.Author.Needs.{needs}
+use mathlib.Core.Path.{_≡_, sym, ap, _∙_}
+use Prim.Native.Nat.{ℕ}
+use native.Mathlib.Omega.{arith}
+use Rattle.refusal.specs.Table.{lowest}
+use Rattle.catalogue.specs.CheckLaws.{checked-refused, checked-valid, valid-accepted}
+use Rattle.ranking.specs.Refusals.{rowsBeside}
+use Rattle.ranking.specs.RefusalSteps.{outcome-joined}
+use Rattle.ranking.proofs.refused.lowest.Statement.{statement}
+use Rattle.ranking.proofs.refused.lowest.Tie as tie
+
+check-requires : tie.Need-check-requires
+check-requires c κs = search needs
+
+enum-known-checked : tie.Need-enum-known-checked
+enum-known-checked c = search needs
+
+enum-known-checked-2 : tie.Need-enum-known-checked-2
+enum-known-checked-2 c = search needs
+
+beside-requires : tie.Need-beside-requires
+beside-requires c κs =
+    let v = checked-valid _ _ (sym (c .before .before .before .check .ensures) ∙ c .before .checked2 .given .1) in
+    omega (arith, v .0 .size .most, v .1)
+
+returns : tie.Need-returns
+returns c = sym (outcome-joined _ _ _ _ (checked-refused _ _ (sym (c .before .before .before .check .ensures) ∙ c .before .checked .given .1)))
+
+returns-2 : tie.Need-returns-2
+returns-2 c =
+    let a = c .before .before .before .before .before .before .args in
+    let v = checked-valid _ _ (sym (c .before .before .before .before .check .ensures) ∙ c .before .before .checked2 .given .1) in
+    c .beside .ensures
+    ∙ ap (λ (n : ℕ). lowest (rowsBeside (a .directions .now) n (a .tolerance) (a .words))) (v .1)
+    ∙ sym (outcome-joined _ _ _ _ (valid-accepted _ (v .0)))
+
+pub lowest-spec : {M : Type 1} → statement M
+lowest-spec =
+    tie.close
+    (tie.spec
+    check-requires
+    enum-known-checked
+    enum-known-checked-2
+    beside-requires
+    returns
+    returns-2)

@@ -1,0 +1,55 @@
+-- The ranking's refusals one row at a time, as the code meets them. Assumes nothing.
+use mathlib.Core.Bool.{Bool, true, false, cond, not}
+use mathlib.Core.Path.{_≡_, refl, sym, ap, _∙_}
+use mathlib.Core.List.{List, [], _∷_, _++_}
+use Prim.Native.Nat.{ℕ, _*_, _≤_, _<_}
+use borrow.Author.Tests.{lt-ltb, le-ltb, le-leb, lt-leb}
+use lib.IntN.{ℤ}
+use Rattle.refusal.specs.declared.Outcome.{Outcome}
+use Rattle.refusal.specs.declared.Outcome.the-variants.{Accepted, Refused}
+use Rattle.refusal.specs.Numbers as number
+use Rattle.refusal.specs.Table.{Row, refusalOf, lowest, answered}
+use Rattle.refusal.specs.Laws.{lowest-here, lowest-next, silent-accepted, Silent}
+use Rattle.direction.specs.List.{listOk}
+use Rattle.direction.specs.ListLaws.{directionsIn}
+use Rattle.catalogue.specs.Format.{recordsIn}
+use Rattle.catalogue.specs.Check as catalogue
+use Rattle.ranking.specs.Refusals.{rowsBeside, refusalsOf}
+
+module _ (directions : List ℤ) (stars tolerance words : ℕ) where
+  pub list-refused : listOk directions ≡ false → lowest (rowsBeside directions stars tolerance words) ≡ refusalOf number.directions 0
+  unfolding rowsBeside
+  list-refused e = lowest-here _ _ (ap not e)
+
+  module _ (e : listOk directions ≡ true) where
+    pub tolerance-refused : 10000000000000000 < tolerance → lowest (rowsBeside directions stars tolerance words) ≡ refusalOf number.demand 0
+    unfolding rowsBeside
+    tolerance-refused h = lowest-next _ _ (ap not e) ∙ lowest-here _ _ (ap not (lt-leb _ _ h))
+
+    module _ (t : tolerance ≤ 10000000000000000) where
+      pub room-refused : words < directionsIn directions * stars → lowest (rowsBeside directions stars tolerance words) ≡ refusalOf number.room 0
+      unfolding rowsBeside
+      room-refused h = lowest-next _ _ (ap not e) ∙ lowest-next _ _ (ap not (le-leb _ _ t)) ∙ lowest-here _ _ (lt-ltb _ _ h)
+
+      pub none-refused : directionsIn directions * stars ≤ words → lowest (rowsBeside directions stars tolerance words) ≡ Accepted
+      unfolding rowsBeside Silent
+      none-refused h = silent-accepted _ (ap not e, (ap not (le-leb _ _ t), (le-ltb _ _ h, tt)))
+
+-- rows behind others are met where none of those applies
+lowest-joined : (xs ys : List Row) → lowest (xs ++ ys) ≡ answered Refused (lowest ys) (lowest xs)
+unfolding lowest
+lowest-joined [] ys = refl
+lowest-joined (x ∷ xs) ys = by (x .applies) (lowest-joined xs ys)
+  where
+    by : (b : Bool) → lowest (xs ++ ys) ≡ answered Refused (lowest ys) (lowest xs)
+        → cond b (refusalOf (x .number) (x .place)) (lowest (xs ++ ys)) ≡ answered Refused (lowest ys) (cond b (refusalOf (x .number) (x .place)) (lowest xs))
+    by true e = refl
+    by false e = e
+
+-- the catalogue's outcome first
+pub outcome-joined : (directions : List ℤ) (bytes : List ℕ) (tolerance words : ℕ) {o : Outcome} → lowest (catalogue.refusalsOf bytes) ≡ o
+    → lowest (refusalsOf directions bytes tolerance words) ≡ answered Refused (lowest (rowsBeside directions (recordsIn bytes) tolerance words)) o
+unfolding refusalsOf
+outcome-joined directions bytes tolerance words e =
+    lowest-joined (catalogue.refusalsOf bytes) (rowsBeside directions (recordsIn bytes) tolerance words)
+    ∙ ap (answered Refused (lowest (rowsBeside directions (recordsIn bytes) tolerance words))) e

@@ -1,0 +1,91 @@
+-- What the call that ranks is for: when it is accepted, and what it leaves in the room. Assumes nothing.
+use mathlib.Core.Bool.{Bool, true, false, not}
+use mathlib.Core.Path.{_≡_, refl, sym, ap, _∙_}
+use mathlib.Core.List.{List, _++_}
+use Prim.Native.Nat.{ℕ, _+_, _*_, _≤_, _<_}
+use native.Mathlib.Omega.{arith}
+use borrow.Author.Tests.{not-true, not-false, leb-true, ltb-false}
+use lib.Dec.{leb, ltb}
+use lib.IntN.{ℤ}
+use lib.ListN.{length, take, drop, length-append, length-drop}
+use lib.Seq.{take-at, drop-at}
+use Rattle.refusal.specs.declared.Refusal.{Refusal}
+use Rattle.refusal.specs.declared.Outcome.{Outcome}
+use Rattle.refusal.specs.declared.Outcome.the-variants.{Accepted, Refused}
+use Rattle.refusal.specs.Table.{lowest, answered}
+use Rattle.refusal.specs.Laws.{Silent, accepted-silent}
+use Rattle.direction.specs.List.{listOk}
+use Rattle.direction.specs.ListLaws.{directionsIn, Directions, ok-directions, directions-ok}
+use Rattle.catalogue.specs.Format.{recordsIn}
+use Rattle.catalogue.specs.Check as catalogue
+use Rattle.catalogue.specs.CheckLaws.{accepted-valid, valid-accepted}
+use Rattle.catalogue.specs.Stars.{starsOf}
+use Rattle.catalogue.specs.Valid.{Valid}
+use Rattle.catalogue.specs.ValidStars.{valid-length, valid-within}
+use Rattle.votes.specs.Votes.{triples, Listed}
+use Rattle.ranking.specs.Ranking.{rankingOf}
+use Rattle.ranking.specs.Laws.{Ranks, ranking-length, ranks}
+use Rattle.ranking.specs.Refusals.{toleranceOk, roomShort, rowsBeside, refusalsOf}
+use Rattle.ranking.specs.RefusalSteps.{none-refused, outcome-joined}
+use Rattle.ranking.specs.Room.{rankOutcomeOf, roomAfter}
+
+-- the call keeps every rule
+pub record Sound (directions : List ℤ) (bytes : List ℕ) (tolerance words : ℕ) : Type 0 where
+  pub catalogue : Valid bytes
+  pub list : Directions directions
+  pub near : tolerance ≤ 10000000000000000
+  pub room : directionsIn directions * recordsIn bytes ≤ words
+
+module _ (directions : List ℤ) (bytes : List ℕ) (tolerance words : ℕ) where
+  beside-sound : lowest (rowsBeside directions (recordsIn bytes) tolerance words) ≡ Accepted
+      → Directions directions × (tolerance ≤ 10000000000000000) × (directionsIn directions * recordsIn bytes ≤ words)
+  unfolding rowsBeside Silent
+  beside-sound e =
+      let s = accepted-silent (rowsBeside directions (recordsIn bytes) tolerance words) e in (
+        ok-directions directions (not-false (listOk directions) (s .0)),
+        leb-true tolerance 10000000000000000 (not-false (toleranceOk tolerance) (s .1 .0)),
+        ltb-false words (directionsIn directions * recordsIn bytes) (s .1 .1 .0),
+      )
+
+  -- accepted exactly where it does
+  pub accepted-sound : lowest (refusalsOf directions bytes tolerance words) ≡ Accepted → Sound directions bytes tolerance words
+  accepted-sound h = go (lowest (catalogue.refusalsOf bytes)) refl
+    where
+      zero-one : _≡_ {A = ℕ} 0 1 → ⊥
+      zero-one z = omega arith
+
+      go : (o : Outcome) → lowest (catalogue.refusalsOf bytes) ≡ o → Sound directions bytes tolerance words
+      go Accepted e =
+          let b = beside-sound (sym (outcome-joined directions bytes tolerance words e) ∙ h) in
+          record { catalogue = accepted-valid bytes e; list = b .0; near = b .1; room = b .2 }
+      go (Refused r) e =
+          let d : Refused r ≡ Accepted = sym (outcome-joined directions bytes tolerance words e) ∙ h in
+          absurd (zero-one cc)
+
+  pub sound-accepted : Sound directions bytes tolerance words → lowest (refusalsOf directions bytes tolerance words) ≡ Accepted
+  sound-accepted s =
+      outcome-joined directions bytes tolerance words (valid-accepted bytes (s .catalogue))
+      ∙ none-refused directions (recordsIn bytes) tolerance words (directions-ok directions (s .list)) (s .near) (s .room)
+
+  -- what the stars and the directions of such a call are
+  module _ (s : Sound directions bytes tolerance words) where
+    pub stars-counted : triples (starsOf bytes) ≡ recordsIn bytes
+    stars-counted = omega (arith, valid-length bytes (s .catalogue))
+
+    pub stars-listed : Listed 512 (starsOf bytes)
+    stars-listed = record { few = omega (arith, stars-counted, s .catalogue .size .most); near = valid-within bytes (s .catalogue) }
+
+    pub directions-listed : Listed 8 directions
+    directions-listed = record { few = s .list .most; near = s .list .within }
+
+module _ (directions : List ℤ) (bytes : List ℕ) (tolerance : ℕ) (room : List ℕ) where
+  -- a refusal leaves the room as found
+  pub room-kept : (r : Refusal) → rankOutcomeOf directions bytes tolerance room ≡ Refused r → roomAfter directions bytes tolerance room ≡ room
+  unfolding roomAfter
+  room-kept r e = rw e
+
+  -- an accepted call leaves the ranking, and the words behind it as found
+  pub room-written : rankOutcomeOf directions bytes tolerance room ≡ Accepted
+      → roomAfter directions bytes tolerance room ≡ rankingOf directions (starsOf bytes) tolerance ++ drop (directionsIn directions * recordsIn bytes) room
+  unfolding roomAfter
+  room-written e = rw e

@@ -1,0 +1,38 @@
+// The ranking's refusals 6 to 10, in the order of their numbers.
+use catalogue::Checked;
+use refusal::Outcome;
+ghost use mathlib.Core.Path.{_≡_};
+ghost use Prim.Native.Nat.{_≤_};
+ghost use Rattle.refusal.specs.Table.{lowest as lowestOf};
+ghost use Rattle.ranking.specs.Refusals.{rowsBeside, refusalsOf};
+
+// How large a tolerance may be.
+const LARGEST_TOLERANCE: u64 = 10000000000000000;
+
+// The lowest of 8, 9 and 10, beside a catalogue of so many stars and a room of so many words.
+fn beside(directions: &[i32], stars: usize, tolerance: u64, words: usize) -> Outcome
+    requires { ⌜ stars ≤ 512 ⌝ }
+    ensures { λ r. ⌜ r ≡ lowestOf (rowsBeside (now (directions .entry)) stars tolerance words) ⌝ }
+{
+    if !direction::list_ok(directions) {
+        return refusal::plain(refusal::DIRECTIONS);
+    }
+    if LARGEST_TOLERANCE < tolerance {
+        return refusal::plain(refusal::DEMAND);
+    }
+    if words < directions.len() / 3 * stars {
+        return refusal::plain(refusal::ROOM);
+    }
+    Outcome::Accepted
+}
+
+// The lowest of 6 to 10 that applies.
+pub fn lowest(directions: &[i32], catalogue: &[u8], tolerance: u64, words: usize) -> Outcome
+    ensures { λ r. ⌜ r ≡ lowestOf (refusalsOf (now (directions .entry)) (now (catalogue .entry)) tolerance words) ⌝ }
+{
+    let checked = catalogue::check(catalogue);
+    match checked {
+        Checked::Refused(r) => Outcome::Refused(r),
+        Checked::Records(stars) => beside(directions, stars, tolerance, words),
+    }
+}
