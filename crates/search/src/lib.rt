@@ -6,6 +6,7 @@ mod refused;
 
 use refusal::Outcome;
 ghost use mathlib.Core.Path.{_≡_};
+ghost use Rattle.search.specs.Refusals.{demandOk};
 ghost use Rattle.search.specs.Fit.{setupOf, Input, FirstFit};
 ghost use Rattle.search.specs.Identified.{answerOf, Identified};
 
@@ -39,6 +40,13 @@ fn index(word: u16) -> usize
     ensures { λ r. ⌜ r ≡ word ⌝ }
 {
     word as usize
+}
+
+// Whether the needed count and the tolerance are in range.
+pub fn demand_ok(needed: usize, tolerance: u64) -> bool
+    ensures { λ r. ⌜ r ≡ demandOk needed tolerance ⌝ }
+{
+    refused::demand_ok(needed, tolerance)
 }
 
 // The first assignment that fits, or that none does. The stars stand in threes, as the directions do.

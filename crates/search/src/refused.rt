@@ -9,7 +9,7 @@ ghost use Rattle.refusal.specs.Table.{lowest as lowestOf};
 ghost use Rattle.search.specs.Refusals.{demandOk, rowsBeside, refusalsOf};
 
 // Whether the needed count and the tolerance are in range.
-fn demand_ok(needed: usize, tolerance: u64) -> bool
+pub fn demand_ok(needed: usize, tolerance: u64) -> bool
     ensures { λ r. ⌜ r ≡ demandOk needed tolerance ⌝ }
 {
     if needed < 3 {

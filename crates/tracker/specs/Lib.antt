@@ -3,3 +3,5 @@ pub mod Sight
 pub mod SightLaws
 pub mod Orient
 pub mod OrientLaws
+pub mod Chain
+pub mod Ready

@@ -1,0 +1,65 @@
+// What the chain asks before it writes anything: the refusals 1 to 12, the lowest that applies.
+use crate::Settings;
+use catalogue::Checked;
+use refusal::Outcome;
+ghost use mathlib.Core.Path.{_≡_};
+ghost use Rattle.refusal.specs.Table.{lowest, otherwise};
+ghost use Rattle.catalogue.specs.Check.{refusalsOf};
+ghost use Rattle.search.specs.Refusals.{demandOk};
+ghost use Rattle.tracker.specs.Chain.{settingsRows, demandRows};
+
+// The words that the room must have, for 8 directions and 512 stars.
+const ROOM: usize = 4096;
+
+// 5.
+fn settings_outcome(settings: Settings) -> Outcome
+    ensures { λ r. ⌜ r ≡ lowest (settingsRows settings) ⌝ }
+{
+    if !direction::settings_ok(settings.cx, settings.cy, settings.focal) {
+        return refusal::plain(refusal::SETTINGS);
+    }
+    Outcome::Accepted
+}
+
+// 6 and 7.
+fn catalogue_outcome(bytes: &[u8]) -> Outcome
+    ensures { λ r. ⌜ r ≡ lowest (refusalsOf (now (bytes .entry))) ⌝ }
+{
+    match catalogue::check(bytes) {
+        Checked::Refused(r) => Outcome::Refused(r),
+        Checked::Records(_) => Outcome::Accepted,
+    }
+}
+
+// 9, 10 and 12, for a room of so many words and so many listed stars.
+fn demand_outcome(settings: Settings, words: usize, count: usize) -> Outcome
+    ensures { λ r. ⌜ r ≡ lowest (demandRows settings words count) ⌝ }
+{
+    let needed = settings.needed;
+    if !search::demand_ok(needed, settings.tolerance) {
+        return refusal::plain(refusal::DEMAND);
+    }
+    if words < ROOM {
+        return refusal::plain(refusal::ROOM);
+    }
+    if count < needed {
+        return refusal::plain(refusal::FEW);
+    }
+    Outcome::Accepted
+}
+
+// The frame's own outcome comes first.
+pub fn outcome(
+    frame: Outcome,
+    count: usize,
+    bytes: &[u8],
+    settings: Settings,
+    words: usize,
+) -> Outcome
+    ensures { λ r. ⌜ r ≡ otherwise frame (otherwise (lowest (settingsRows settings)) (otherwise (lowest (refusalsOf (now (bytes .entry)))) (lowest (demandRows settings words count)))) ⌝ }
+{
+    let demand = demand_outcome(settings, words, count);
+    let catalogue = refusal::otherwise(catalogue_outcome(bytes), demand);
+    let camera = refusal::otherwise(settings_outcome(settings), catalogue);
+    refusal::otherwise(frame, camera)
+}
