@@ -45,6 +45,11 @@ abbrev pub oriented : Report → List ℕ → Attitude → Tracked
 oriented report words (attitude.Refused r) = refusedWith r
 oriented report words (attitude.Found m) = record { outcome = outcome.Accepted; report = report; stars = words; matrix = m }
 
+-- the attitude of what a search found, or its refusal
+unfoldable pub settledOf : Report → List ℤ → List ℕ → Identification → Tracked
+settledOf report directions bytes found =
+    answered refusedWith (oriented report (found .stars) (orientationOf directions (starsOf bytes) (found .stars))) (found .outcome)
+
 -- ---- the steps behind the frame's list
 
 module _ (report : Report) (bytes : List ℕ) (s : Settings) where
@@ -58,8 +63,7 @@ module _ (report : Report) (bytes : List ℕ) (s : Settings) where
   ourIdentification = identificationOf sightsOf bytes (s .needed) (s .tolerance) ourRanking
 
   unfoldable pub locatedOf : Tracked
-  locatedOf =
-      answered refusedWith (oriented report (ourIdentification .stars) (orientationOf sightsOf (starsOf bytes) (ourIdentification .stars))) (ourIdentification .outcome)
+  locatedOf = settledOf report sightsOf bytes ourIdentification
 
   -- the first directions x stars words are the ranking, the rest stay
   unfoldable pub rankedRoom : List ℕ → List ℕ
@@ -72,6 +76,9 @@ pub record Call : Type 0 where
   pub catalogue : List ℕ
   pub settings : Settings
   pub room : List ℕ
+
+abbrev pub call : List ℕ → List ℕ → Settings → List ℕ → Call
+call f k s r = record { samples = f; catalogue = k; settings = s; room = r }
 
 abbrev pub listed : Call → Listing
 listed c = listingOf (c .samples) (c .settings .width) (c .settings .height) (c .settings .threshold)

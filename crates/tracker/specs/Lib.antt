@@ -5,3 +5,7 @@ pub mod Orient
 pub mod OrientLaws
 pub mod Chain
 pub mod Ready
+pub mod AdmitLaws
+pub mod ChainLaws
+pub mod SettledLaws
+pub mod ReadyLaws

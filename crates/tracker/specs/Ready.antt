@@ -2,7 +2,8 @@
 use mathlib.Core.Path.{_≡_}
 use mathlib.Core.Bool.{true, false}
 use mathlib.Core.List.{List}
-use Prim.Native.Nat.{ℕ, _≤_}
+use Prim.Native.Nat.{ℕ, _/_, _≤_}
+use lib.IntN.{ℤ}
 use lib.ListN.{length}
 use Rattle.refusal.specs.declared.Outcome.the-variants.{Accepted}
 use Rattle.refusal.specs.Numbers as number
@@ -13,13 +14,15 @@ use Rattle.catalogue.specs.Format.{recordsIn}
 use Rattle.catalogue.specs.Stars.{starsOf}
 use Rattle.catalogue.specs.Valid.{Valid}
 use Rattle.assignment.specs.Order.{FirstOf}
+use Rattle.assignment.specs.Problem.{assigned}
+use Rattle.search.specs.declared.Identification.{Identification}
 use Rattle.search.specs.Once as once
 use Rattle.search.specs.Fit.{FitsHere}
 use Rattle.search.specs.Identified.{setupFor}
 use Rattle.tracker.specs.declared.Settings.{Settings}
 use Rattle.tracker.specs.declared.Tracked.{Tracked}
 use Rattle.tracker.specs.Sight.{AllInFrame}
-use Rattle.tracker.specs.Chain.{sightsOf, ourRanking, Call}
+use Rattle.tracker.specs.Chain.{sightsOf, ourRanking, Call, listed}
 
 -- a report with enough stars, each on the frame; a valid catalogue; a demand in range; and a room for any ranking
 pub record Ready (report : Report) (bytes : List ℕ) (s : Settings) (room : List ℕ) : Type 0 where
@@ -43,6 +46,12 @@ pub record Names (report : Report) (bytes : List ℕ) (s : Settings) (t : Tracke
       t .outcome ≡ refusalOf number.noFit 0
       → (xs : List ℕ) → FitsHere (setupFor (sightsOf report bytes s) bytes (s .needed) (s .tolerance)) (sightsOf report bytes s) (starsOf bytes) xs → ⊥
 
--- a call's arguments
-abbrev pub call : List ℕ → List ℕ → Settings → List ℕ → Call
-call f k s r = record { samples = f; catalogue = k; settings = s; room = r }
+-- what the attitude is asked of: where the search found something, it gave two directions a star at least
+pub record Settles (directions : List ℤ) (bytes : List ℕ) (found : Identification) : Type 0 where
+  pub few : length directions / 3 ≤ 8
+  pub catalogue : Valid bytes
+  pub two : found .outcome ≡ Accepted → 2 ≤ assigned (recordsIn bytes) (found .stars) (length directions / 3)
+
+-- the same of a whole call; where one of 1 to 12 is given, nothing is named
+abbrev pub Tracks : Call → Tracked → Type 0
+Tracks c = Names (listed c .report) (c .catalogue) (c .settings)

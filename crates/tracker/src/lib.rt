@@ -2,17 +2,17 @@
 mod admit;
 mod sight;
 mod orient;
+mod locate;
 
-use attitude::Attitude;
 use attitude::Matrix;
+use centroid::Centroid;
 use frame::Report;
 use refusal::Outcome;
 use refusal::Refusal;
-use centroid::Centroid;
 use vectors::Vec3;
 ghost use mathlib.Core.Path.{_≡_};
-ghost use Rattle.tracker.specs.Chain.{refusedWith, oriented, locatedOf, rankedRoom, trackedOf, roomAfter};
-ghost use Rattle.tracker.specs.Ready.{Ready, Names, call};
+ghost use Rattle.tracker.specs.Chain.{refusedWith, call, trackedOf, roomAfter};
+ghost use Rattle.tracker.specs.Ready.{Tracks};
 
 // The camera's settings: the frame's size and threshold, the centre and the focal length in 1/256 pixel, how many directions need a star, and how
 // far apart two dot products may be.
@@ -63,5 +63,23 @@ fn refused(refusal: Refusal) -> Tracked
         report,
         stars: [0u16; 8],
         matrix,
+    }
+}
+
+// The whole chain. The room takes the ranking; it must have 4,096 words, for 8 directions and 512 stars.
+pub fn track(samples: &[u16], catalogue: &[u8], settings: Settings, room: &mut [u16]) -> Tracked
+    ensures { λ r. ⌜ r ≡ trackedOf (call (now (samples .entry)) (now (catalogue .entry)) settings (now (room .entry))) ⌝ }
+    ensures { λ r. ⌜ now (room .exit) ≡ roomAfter (call (now (samples .entry)) (now (catalogue .entry)) settings (now (room .entry))) ⌝ }
+    ensures { λ r. ⌜ Tracks (call (now (samples .entry)) (now (catalogue .entry)) settings (now (room .entry))) r ⌝ }
+{
+    let listing = frame::list(samples, settings.width, settings.height, settings.threshold);
+    let frame = listing.outcome;
+    let report = listing.report;
+    let count = report.count;
+    let words = room.len();
+    let outcome = admit::outcome(frame, count, catalogue, settings, words);
+    match outcome {
+        Outcome::Refused(r) => refused(r),
+        Outcome::Accepted => locate::located(report, catalogue, settings, room),
     }
 }

@@ -1,52 +1,44 @@
+-- `tracker::admit::demand_outcome` meets its contract, test by test. Assumes nothing.
 use borrow.Author.Needs.{needs}
+use borrow.Author.Tests.{not-true, not-false}
+use mathlib.Core.Bool.{true}
+use mathlib.Core.Path.{_≡_, sym, _∙_}
+use Rattle.search.specs.Refusals.{demandOk}
+use Rattle.tracker.specs.AdmitLaws.{demand-refused, room-refused, few-refused, demand-passed}
 use Rattle.tracker.proofs.admit.demand_outcome.Statement.{statement}
 use Rattle.tracker.proofs.admit.demand_outcome.Tie as tie
-use Rattle.tracker.proofs.admit.demand_outcome.Reads as reads
-use Rattle.tracker.proofs.admit.demand_outcome.Lts as lts
-use Rattle.refusal.proofs.plain.Reads as plain-reads
-use Rattle.search.proofs.demand_ok.Reads as demand-ok-reads
 
--- src/admit.rt:39:9
 demand-ok-requires : tie.Need-demand-ok-requires
 demand-ok-requires c κs = search needs
 
--- src/admit.rt:40:9
 plain-requires : tie.Need-plain-requires
 plain-requires c κs = search needs
 
--- src/admit.rt:40:9
-returns : tie.Need-returns
-returns c = ?
-
--- src/admit.rt:43:9
 plain-requires-2 : tie.Need-plain-requires-2
 plain-requires-2 c κs = search needs
 
--- src/admit.rt:43:9
-returns-2 : tie.Need-returns-2
-returns-2 c = ?
-
--- src/admit.rt:46:9
 plain-requires-3 : tie.Need-plain-requires-3
 plain-requires-3 c κs = search needs
 
--- src/admit.rt:46:9
-returns-3 : tie.Need-returns-3
-returns-3 c = ?
+returns : tie.Need-returns
+returns c = c .plain .ensures ∙ sym (demand-refused _ _ _ (sym (c .before .before .demand-ok .ensures) ∙ not-true _ (c .before .if1 .taken)))
 
--- src/admit.rt:35:1
+returns-2 : tie.Need-returns-2
+returns-2 c =
+    let t = c .before in
+    let d = t .before .before in
+    c .plain2 .ensures ∙ sym (room-refused _ _ _ (sym (d .demand-ok .ensures) ∙ not-false _ (t .before .if1 .left)) (t .if2 .taken))
+
+returns-3 : tie.Need-returns-3
+returns-3 c =
+    let t = c .before in
+    let e = t .before .before in
+    c .plain3 .ensures ∙ sym (few-refused _ _ _ (sym (e .before .demand-ok .ensures) ∙ not-false _ (e .if1 .left)) (t .before .if2 .left) (t .if3 .taken))
+
 returns-4 : tie.Need-returns-4
-returns-4 c = ?
+returns-4 c =
+    let e = c .before .before in
+    sym (demand-passed _ _ _ (sym (e .before .demand-ok .ensures) ∙ not-false _ (e .if1 .left)) (c .before .if2 .left) (c .if3 .left))
 
 pub demand-outcome-spec : {M : Type 1} → statement M
-demand-outcome-spec =
-    tie.close
-    (tie.spec
-    demand-ok-requires
-    plain-requires
-    returns
-    plain-requires-2
-    returns-2
-    plain-requires-3
-    returns-3
-    returns-4)
+demand-outcome-spec = tie.close (tie.spec demand-ok-requires plain-requires returns plain-requires-2 returns-2 plain-requires-3 returns-3 returns-4)

@@ -1,40 +1,38 @@
+-- `tracker::admit::outcome` meets its contract: it says what its parts say. Assumes nothing.
 use borrow.Author.Needs.{needs}
+use mathlib.Core.Path.{ap, _∙_}
+use Rattle.refusal.specs.Table.{otherwise}
 use Rattle.tracker.proofs.admit.outcome.Statement.{statement}
 use Rattle.tracker.proofs.admit.outcome.Tie as tie
-use Rattle.tracker.proofs.admit.outcome.Reads as reads
-use Rattle.tracker.proofs.admit.outcome.Lts as lts
-use Rattle.refusal.proofs.otherwise.Reads as otherwise-reads
-use Rattle.tracker.proofs.admit.catalogue_outcome.Reads as catalogue-outcome-reads
-use Rattle.tracker.proofs.admit.demand_outcome.Reads as demand-outcome-reads
-use Rattle.tracker.proofs.admit.settings_outcome.Reads as settings-outcome-reads
 
--- src/admit.rt:61:9
 demand-outcome-requires : tie.Need-demand-outcome-requires
 demand-outcome-requires c κs = search needs
 
--- src/admit.rt:62:40
 catalogue-outcome-requires : tie.Need-catalogue-outcome-requires
 catalogue-outcome-requires c κs = search needs
 
--- src/admit.rt:62:9
 otherwise-requires : tie.Need-otherwise-requires
 otherwise-requires c κs = search needs
 
--- src/admit.rt:63:37
 settings-outcome-requires : tie.Need-settings-outcome-requires
 settings-outcome-requires c κs = search needs
 
--- src/admit.rt:63:9
 otherwise-requires-2 : tie.Need-otherwise-requires-2
 otherwise-requires-2 c κs = search needs
 
--- src/admit.rt:64:5
 otherwise-requires-3 : tie.Need-otherwise-requires-3
 otherwise-requires-3 c κs = search needs
 
--- src/admit.rt:52:1
 returns : tie.Need-returns
-returns c = ?
+returns c =
+    let o2 = c .before in
+    let camera = o2 .before in
+    let o1 = camera .before in
+    let stars = o1 .before in
+    let demand = stars .before in
+    let inner = o1 .otherwise .ensures ∙ (λ i. otherwise (stars .catalogue-outcome .ensures i) (demand .demand-outcome .ensures i)) in
+    let frame = demand .before .before .args .frame in
+    c .otherwise3 .ensures ∙ ap (otherwise frame) (o2 .otherwise2 .ensures ∙ (λ i. otherwise (camera .settings-outcome .ensures i) (inner i)))
 
 pub outcome-spec : {M : Type 1} → statement M
 outcome-spec =

@@ -1,0 +1,55 @@
+-- The refusals that the chain gives before it writes anything, one row at a time. Assumes nothing.
+use mathlib.Core.Bool.{true, false, not}
+use mathlib.Core.Path.{_≡_, sym, ap, _∙_}
+use mathlib.Core.List.{List, _++_}
+use Prim.Native.Nat.{ℕ, _≤_, _<_}
+use borrow.Author.Tests.{lt-ltb, le-ltb}
+use lib.Dec.{ltb}
+use lib.ListN.{length}
+use Rattle.refusal.specs.declared.Outcome.the-variants.{Accepted}
+use Rattle.refusal.specs.Numbers as number
+use Rattle.refusal.specs.Table.{refusalOf, lowest, otherwise}
+use Rattle.refusal.specs.Laws.{lowest-append}
+use Rattle.frame.specs.Input.{frameRows}
+use Rattle.frame.specs.Calls.{listingOf}
+use Rattle.direction.specs.Settings.{settingsOk}
+use Rattle.catalogue.specs.Check as catalogue
+use Rattle.search.specs.Refusals.{demandOk}
+use Rattle.tracker.specs.declared.Settings.{Settings}
+use Rattle.tracker.specs.Chain.{Call, listed, settingsRows, demandRows, refusalsOf}
+
+module _ (s : Settings) where
+  pub settings-refused : settingsOk (s .cx) (s .cy) (s .focal) ≡ false → lowest (settingsRows s) ≡ refusalOf number.settings 0
+  unfolding settingsRows lowest
+  settings-refused e = rw e
+
+  pub settings-passed : settingsOk (s .cx) (s .cy) (s .focal) ≡ true → lowest (settingsRows s) ≡ Accepted
+  unfolding settingsRows lowest
+  settings-passed e = rw e
+
+  module _ (words count : ℕ) where
+    pub demand-refused : demandOk (s .needed) (s .tolerance) ≡ false → lowest (demandRows s words count) ≡ refusalOf number.demand 0
+    unfolding demandRows lowest
+    demand-refused e = rw e
+
+    pub room-refused : demandOk (s .needed) (s .tolerance) ≡ true → words < 4096 → lowest (demandRows s words count) ≡ refusalOf number.room 0
+    unfolding demandRows lowest
+    room-refused e h = rw (e, lt-ltb words 4096 h)
+
+    pub few-refused : demandOk (s .needed) (s .tolerance) ≡ true → 4096 ≤ words → count < s .needed → lowest (demandRows s words count) ≡ refusalOf number.few 0
+    unfolding demandRows lowest
+    few-refused e h k = rw (e, le-ltb words 4096 h, lt-ltb count (s .needed) k)
+
+    pub demand-passed : demandOk (s .needed) (s .tolerance) ≡ true → 4096 ≤ words → s .needed ≤ count → lowest (demandRows s words count) ≡ Accepted
+    unfolding demandRows lowest
+    demand-passed e h k = rw (e, le-ltb words 4096 h, le-ltb count (s .needed) k)
+
+-- the first of the four parts that refuses
+pub refusals-joined : (c : Call) → lowest (refusalsOf c) ≡ otherwise (listed c .outcome) (otherwise (lowest (settingsRows (c .settings))) (otherwise (lowest (catalogue.refusalsOf (c .catalogue))) (lowest (demandRows (c .settings) (length (c .room)) (listed c .report .count)))))
+unfolding refusalsOf listingOf
+refusals-joined c =
+    let s = c .settings in
+    let f = frameRows (c .samples) (s .width) (s .height) (s .threshold) in
+    let k = catalogue.refusalsOf (c .catalogue) in
+    let d = demandRows s (length (c .room)) (listed c .report .count) in
+    lowest-append f (settingsRows s ++ (k ++ d)) ∙ ap (otherwise (lowest f)) (lowest-append (settingsRows s) (k ++ d) ∙ ap (otherwise (lowest (settingsRows s))) (lowest-append k d))

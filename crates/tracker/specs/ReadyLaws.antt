@@ -1,0 +1,113 @@
+-- Where none of 1 to 12 applies, the steps behind the frame's list have what they ask for; and no other number is given before them. Assumes nothing.
+use mathlib.Core.Bool.{Bool, true, false, not, _&&_, and-eq-true-iff}
+use mathlib.Core.Path.{_≡_, refl, sym, ap, _∙_, subst}
+use mathlib.Core.List.{List, [], _∷_, _++_}
+use Prim.Native.Nat.{ℕ, _+_, _*_, _≤_, _<_, min, zero-le}
+use native.Mathlib.Decide.{decLt}
+use native.Mathlib.Omega.{arith}
+use borrow.Author.Tests.{not-false, leb-true, ltb-false}
+use lib.Dec.{leb, ltb}
+use lib.ListN.{length, take, replicate, getD, length-take, length-append, length-replicate, List·getD-eq-default}
+use Rattle.refusal.specs.declared.Refusal.{Refusal}
+use Rattle.refusal.specs.declared.Outcome.{Outcome}
+use Rattle.refusal.specs.declared.Outcome.the-variants.{Accepted, Refused}
+use Rattle.refusal.specs.Table.{Row, lowest, answered, otherwise}
+use Rattle.refusal.specs.Laws.{Silent, accepted-silent, otherwise-accepted, AtMost, at-most-append, lowest-most}
+use Rattle.frame.specs.declared.Report.{Report}
+use Rattle.frame.specs.Input.{frameRows}
+use Rattle.frame.specs.InputLaws as input
+use Rattle.frame.specs.Stars.{nought, measuredOf, firstEight, reportOf, numberOf, isMeasured}
+use Rattle.frame.specs.Calls.{listingOf}
+use Rattle.frame.specs.CallsLaws.{star-range, zeros-behind}
+use Rattle.catalogue.specs.Check as catalogue
+use Rattle.catalogue.specs.Check.{refusalsOf as catalogueRows}
+use Rattle.catalogue.specs.CheckLaws.{accepted-valid}
+use Rattle.search.specs.Refusals.{demandOk}
+use Rattle.tracker.specs.declared.Settings.{Settings}
+use Rattle.tracker.specs.Sight.{InFrame, AllInFrame}
+use Rattle.tracker.specs.Chain.{Call, listed, settingsRows, demandRows, refusalsOf}
+use Rattle.tracker.specs.AdmitLaws.{refusals-joined}
+use Rattle.tracker.specs.Ready.{Ready}
+
+-- ---- a report's stars
+
+module _ (samples : List ℕ) (width height threshold : ℕ) (w : width ≤ 1024) (h : height ≤ 1024) where
+  abbrev report : Report
+  report = reportOf samples width height threshold (height * width)
+
+  pub report-size : length (report .stars) ≡ 8
+  unfolding reportOf
+  report-size =
+      let stars = measuredOf samples width height threshold (height * width) in
+      omega (arith, length-take 8 (stars ++ replicate 8 nought), length-append stars (replicate 8 nought), length-replicate 8 nought)
+
+  pub report-few : report .count ≤ 8
+  unfolding reportOf
+  report-few = omega arith
+
+  pub report-placed : AllInFrame (report .stars)
+  report-placed = record { at = λ k. by k (decLt k (report .count)) (decLt k 8) }
+    where
+      nowhere-in : InFrame nought
+      nowhere-in = record { across = zero-le; down = zero-le }
+
+      by : (k : ℕ) → Dec (k < report .count) → Dec (k < 8) → InFrame (getD (report .stars) k nought)
+      by k (yes l) d = let r = star-range samples width height threshold (height * width) w h k l in record { across = r .0; down = r .1 }
+      by k (no l) (yes d) = subst InFrame (sym (zeros-behind samples width height threshold (height * width) k (omega arith) d)) nowhere-in
+      by k (no l) (no d) = subst InFrame (sym (List·getD-eq-default (report .stars) nought (omega (arith, report-size)))) nowhere-in
+
+-- ---- the demand
+
+demand-says : (needed tolerance : ℕ) → demandOk needed tolerance ≡ true → (3 ≤ needed) × (needed ≤ 8) × (tolerance ≤ 10000000000000000)
+unfolding demandOk
+demand-says needed tolerance e =
+    let a = and-eq-true-iff (leb 3 needed && leb needed 8) (leb tolerance 10000000000000000) .0 e in
+    let b = and-eq-true-iff (leb 3 needed) (leb needed 8) .0 (a .0) in
+    (leb-true 3 needed (b .0), leb-true needed 8 (b .1), leb-true tolerance 10000000000000000 (a .1))
+
+demand-rows : (s : Settings) (words count : ℕ) → lowest (demandRows s words count) ≡ Accepted → (demandOk (s .needed) (s .tolerance) ≡ true) × (4096 ≤ words) × (s .needed ≤ count)
+unfolding demandRows Silent
+demand-rows s words count e =
+    let a = accepted-silent (demandRows s words count) e in
+    (not-false (demandOk (s .needed) (s .tolerance)) (a .0), ltb-false words 4096 (a .1 .0), ltb-false count (s .needed) (a .1 .1 .0))
+
+-- ---- the call
+
+pub ready : (c : Call) → lowest (refusalsOf c) ≡ Accepted → Ready (listed c .report) (c .catalogue) (c .settings) (c .room)
+unfolding listingOf
+ready c e =
+    let s = c .settings in
+    let stars = lowest (catalogue.refusalsOf (c .catalogue)) in
+    let demand = lowest (demandRows s (length (c .room)) (listed c .report .count)) in
+    let a = otherwise-accepted (listed c .outcome) (otherwise (lowest (settingsRows s)) (otherwise stars demand)) (sym (refusals-joined c) ∙ e) in
+    let b = otherwise-accepted (lowest (settingsRows s)) (otherwise stars demand) (a .1) in
+    let k = otherwise-accepted stars demand (b .1) in
+    let d = demand-rows s (length (c .room)) (listed c .report .count) (k .1) in
+    let q = demand-says (s .needed) (s .tolerance) (d .0) in
+    let v = input.accepted-valid (c .samples) (s .width) (s .height) (s .threshold) (a .0) in
+    let r : listed c .report ≡ reportOf (c .samples) (s .width) (s .height) (s .threshold) (s .height * s .width) = rw (a .0) in
+    record {
+      few = rw r (report-few (c .samples) (s .width) (s .height) (s .threshold) (v .wide .1) (v .high .1));
+      placed = rw r (report-placed (c .samples) (s .width) (s .height) (s .threshold) (v .wide .1) (v .high .1));
+      size = rw r (report-size (c .samples) (s .width) (s .height) (s .threshold) (v .wide .1) (v .high .1));
+      catalogue = accepted-valid (c .catalogue) (k .0);
+      least = q .0;
+      most = q .1;
+      near = q .2;
+      enough = d .2;
+      long = d .1;
+    }
+
+-- before anything is written no number above 12 is given
+pub refusals-most : (c : Call) → AtMost 12 (refusalsOf c)
+unfolding refusalsOf settingsRows demandRows catalogueRows AtMost
+refusals-most c =
+    let s = c .settings in
+    let f = frameRows (c .samples) (s .width) (s .height) (s .threshold) in
+    let k = catalogue.refusalsOf (c .catalogue) in
+    let d = demandRows s (length (c .room)) (listed c .report .count) in
+    at-most-append 12 f (settingsRows s ++ (k ++ d)) (omega arith, (omega arith, (omega arith, (omega arith, tt))))
+    (at-most-append 12 (settingsRows s) (k ++ d) (omega arith, tt) (at-most-append 12 k d (omega arith, (omega arith, tt)) (omega arith, (omega arith, (omega arith, tt)))))
+
+pub refused-most : (c : Call) (q : Refusal) → lowest (refusalsOf c) ≡ Refused q → q .number ≤ 12
+refused-most c = lowest-most 12 (refusalsOf c) (refusals-most c)
