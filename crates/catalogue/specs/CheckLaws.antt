@@ -17,7 +17,7 @@ use Rattle.refusal.specs.Table.{refusalOf, lowest, answered}
 use Rattle.catalogue.specs.declared.Checked.the-variants.{Refused, Records}
 use Rattle.catalogue.specs.Format.{recordsIn, identityOf}
 use Rattle.catalogue.specs.Rule.{recordOk}
-use Rattle.catalogue.specs.First.{First, first-is, first-of}
+use Rattle.counting.specs.First.{First, first-is, first-of}
 use Rattle.catalogue.specs.Check.{lengthOk, brokenOf, refusalsOf, checkedOf}
 use Rattle.catalogue.specs.CheckSteps.{checked, wrong-length, one-broken, none-broken}
 use Rattle.catalogue.specs.Valid.{LengthRule, RecordRule, Valid, FirstBroken}

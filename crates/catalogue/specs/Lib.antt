@@ -3,7 +3,6 @@ pub mod Format
 pub mod Signed
 pub mod Rule
 pub mod RuleSteps
-pub mod First
 pub mod Check
 pub mod CheckSteps
 pub mod Valid

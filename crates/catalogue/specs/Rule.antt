@@ -7,13 +7,15 @@ use lib.Dec.{leb, ltb}
 use lib.IntN.{ℤ, pos, natAbs, _+ℤ_, _-ℤ_, _*ℤ_}
 use Rattle.catalogue.specs.Format.{identityOf, componentOf}
 
--- how far from 0 a component may lie, what the sum of the squares is to be, and how far from that it may lie
+-- how far from 0 a component may lie
 abbrev pub largest : ℕ
 largest = 1000000000
 
-abbrev pub norm : ℕ
-norm = 1000000000000000000
+-- what the sum of the squares is to be
+abbrev pub squareSum : ℕ
+squareSum = 1000000000000000000
 
+-- and how far from that it may lie
 abbrev pub slack : ℕ
 slack = 4000000000
 
@@ -24,7 +26,7 @@ abbrev pub squares : ℤ → ℤ → ℤ → ℤ
 squares x y z = x *ℤ x +ℤ y *ℤ y +ℤ z *ℤ z
 
 abbrev pub normOk : ℤ → ℤ → ℤ → Bool
-normOk x y z = leb (natAbs (squares x y z -ℤ pos norm)) slack
+normOk x y z = leb (natAbs (squares x y z -ℤ pos squareSum)) slack
 
 unfoldable pub directionOk : ℤ → ℤ → ℤ → Bool
 directionOk x y z = inRange x && inRange y && inRange z && normOk x y z

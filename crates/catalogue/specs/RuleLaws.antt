@@ -10,7 +10,7 @@ use lib.IntN.{ℤ, pos, natAbs, _-ℤ_}
 use lib.ListN.{length}
 use Rattle.numbers.specs.Within.{Within}
 use Rattle.catalogue.specs.Format.{recordSize, mostRecords, recordsIn, identityOf, componentOf}
-use Rattle.catalogue.specs.Rule.{largest, norm, slack, inRange, squares, normOk, directionOk, identityRises, recordOk}
+use Rattle.catalogue.specs.Rule.{largest, squareSum, slack, inRange, squares, normOk, directionOk, identityRises, recordOk}
 use Rattle.catalogue.specs.RuleSteps.{starOk}
 use Rattle.catalogue.specs.Check.{lengthOk}
 use Rattle.catalogue.specs.Valid.{LengthRule, StarRule, RecordRule}
@@ -56,13 +56,13 @@ module _ (bytes : List ℕ) (i : ℕ) where
       let p = both (inRange x && inRange y && inRange z) (normOk x y z) e in
       let q = both (inRange x && inRange y) (inRange z) (p .0) in
       let r = both (inRange x) (inRange y) (q .0) in
-      record { x = near largest x (r .0); y = near largest y (r .1); z = near largest z (q .1); norm = near slack (squares x y z -ℤ pos norm) (p .1) }
+      record { x = near largest x (r .0); y = near largest y (r .1); z = near largest z (q .1); norm = near slack (squares x y z -ℤ pos squareSum) (p .1) }
 
   star-ok : StarRule bytes i → starOk bytes i ≡ true
   unfolding directionOk
   star-ok h =
       rw (le-leb (natAbs x) largest (h .x .within), le-leb (natAbs y) largest (h .y .within), le-leb (natAbs z) largest (h .z .within))
-      (le-leb (natAbs (squares x y z -ℤ pos norm)) slack (h .norm .within))
+      (le-leb (natAbs (squares x y z -ℤ pos squareSum)) slack (h .norm .within))
 
 -- ---- and against the record before
 

@@ -6,7 +6,7 @@ use lib.IntN.{pos, _-ℤ_}
 use lib.ListN.{length}
 use Rattle.numbers.specs.Within.{Within}
 use Rattle.catalogue.specs.Format.{recordSize, mostRecords, recordsIn, identityOf, componentOf}
-use Rattle.catalogue.specs.Rule.{largest, norm, slack, squares}
+use Rattle.catalogue.specs.Rule.{largest, squareSum, slack, squares}
 
 -- whole records, 1 to 512
 pub record LengthRule (bytes : List ℕ) : Type 0 where
@@ -19,7 +19,7 @@ pub record StarRule (bytes : List ℕ) (i : ℕ) : Type 0 where
   pub x : Within largest (componentOf bytes i 0)
   pub y : Within largest (componentOf bytes i 1)
   pub z : Within largest (componentOf bytes i 2)
-  pub norm : Within slack (squares (componentOf bytes i 0) (componentOf bytes i 1) (componentOf bytes i 2) -ℤ pos norm)
+  pub norm : Within slack (squares (componentOf bytes i 0) (componentOf bytes i 1) (componentOf bytes i 2) -ℤ pos squareSum)
 
 -- and against the record before, if there is one
 pub record RecordRule (bytes : List ℕ) (i : ℕ) : Type 0 where

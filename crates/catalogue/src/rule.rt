@@ -11,9 +11,10 @@ ghost use Rattle.catalogue.specs.Check.{brokenOf};
 // How far from 0 a component may lie.
 const LARGEST: u64 = 1000000000;
 
-// What the sum of a direction's squares is to be, and how far from that it may lie.
-const NORM: i64 = 1000000000000000000;
+// What the sum of a direction's squares is to be.
+const SQUARE_SUM: i64 = 1000000000000000000;
 
+// How far from that it may lie.
 const SLACK: u64 = 4000000000;
 
 // Whether three numbers are a star's direction.
@@ -29,7 +30,7 @@ fn direction_ok(x: i64, y: i64, z: i64) -> bool
     if !numbers::within(z, LARGEST) {
         return false;
     }
-    numbers::within(x * x + y * y + z * z - NORM, SLACK)
+    numbers::within(x * x + y * y + z * z - SQUARE_SUM, SLACK)
 }
 
 // Whether record i keeps its rule.

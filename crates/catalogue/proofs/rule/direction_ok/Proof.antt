@@ -8,7 +8,7 @@ use mir.Syntax.{w64}
 use mir.Val.{SFits, toZ, ofZ}
 use Rattle.numbers.specs.Within.{Within}
 use Rattle.numbers.specs.Num.{Num, param, arg, lit, mul, add, sub, fits, back}
-use Rattle.catalogue.specs.Rule.{largest, norm, slack, inRange, directionOk}
+use Rattle.catalogue.specs.Rule.{largest, squareSum, slack, inRange, directionOk}
 use borrow.Author.Needs.{needs}
 use Rattle.catalogue.proofs.rule.direction_ok.Statement.{statement}
 use Rattle.catalogue.proofs.rule.direction_ok.Tie as tie
@@ -54,7 +54,7 @@ abbrev sum : tie.Else3 → Num w64
 sum c = add (two c) (zz c) tt
 
 abbrev apart : tie.Else3 → Num w64
-apart c = sub (sum c) (lit (pos norm) tt) tt
+apart c = sub (sum c) (lit (pos squareSum) tt) tt
 
 within-requires : tie.Need-within-requires
 within-requires c κs = search needs
