@@ -1,13 +1,13 @@
 -- What the call that ranks is for: when it is accepted, and what it leaves in the room. Assumes nothing.
 use mathlib.Core.Bool.{Bool, true, false, not}
-use mathlib.Core.Path.{_≡_, refl, sym, ap, _∙_}
+use mathlib.Core.Path.{_≡_, refl, sym, ap, subst, _∙_}
 use mathlib.Core.List.{List, _++_}
 use Prim.Native.Nat.{ℕ, _+_, _*_, _≤_, _<_}
 use native.Mathlib.Omega.{arith}
 use borrow.Author.Tests.{not-true, not-false, leb-true, ltb-false}
 use lib.Dec.{leb, ltb}
 use lib.IntN.{ℤ}
-use lib.ListN.{length, take, drop, length-append, length-drop}
+use lib.ListN.{length, take, drop}
 use lib.Seq.{take-at, drop-at}
 use Rattle.refusal.specs.declared.Refusal.{Refusal}
 use Rattle.refusal.specs.declared.Outcome.{Outcome}
@@ -24,7 +24,7 @@ use Rattle.catalogue.specs.Valid.{Valid}
 use Rattle.catalogue.specs.ValidStars.{valid-length, valid-within}
 use Rattle.votes.specs.Votes.{triples, Listed}
 use Rattle.ranking.specs.Ranking.{rankingOf}
-use Rattle.ranking.specs.Laws.{Ranks, ranking-length, ranks}
+use Rattle.ranking.specs.Laws.{Ranks, ranks}
 use Rattle.ranking.specs.Refusals.{toleranceOk, roomShort, rowsBeside, refusalsOf}
 use Rattle.ranking.specs.RefusalSteps.{none-refused, outcome-joined}
 use Rattle.ranking.specs.Room.{rankOutcomeOf, roomAfter}
@@ -89,3 +89,20 @@ module _ (directions : List ℤ) (bytes : List ℕ) (tolerance : ℕ) (room : Li
       → roomAfter directions bytes tolerance room ≡ rankingOf directions (starsOf bytes) tolerance ++ drop (directionsIn directions * recordsIn bytes) room
   unfolding roomAfter
   room-written e = rw e
+
+  module _ (e : rankOutcomeOf directions bytes tolerance room ≡ Accepted) where
+    call-sound : Sound directions bytes tolerance (length room)
+    unfolding rankOutcomeOf
+    call-sound = accepted-sound directions bytes tolerance (length room) e
+
+    -- each row of it names each star exactly once
+    pub written-ranks : Ranks (directionsIn directions) (recordsIn bytes) (rankingOf directions (starsOf bytes) tolerance)
+    written-ranks =
+        subst (λ (n : ℕ). Ranks (directionsIn directions) n (rankingOf directions (starsOf bytes) tolerance))
+        (stars-counted directions bytes tolerance (length room) call-sound) (ranks directions (starsOf bytes) tolerance)
+
+    pub room-front : take (directionsIn directions * recordsIn bytes) (roomAfter directions bytes tolerance room) ≡ rankingOf directions (starsOf bytes) tolerance
+    room-front = ap (take (directionsIn directions * recordsIn bytes)) (room-written e) ∙ take-at (rankingOf directions (starsOf bytes) tolerance) _ _ (written-ranks .sized)
+
+    pub room-rest : drop (directionsIn directions * recordsIn bytes) (roomAfter directions bytes tolerance room) ≡ drop (directionsIn directions * recordsIn bytes) room
+    room-rest = ap (drop (directionsIn directions * recordsIn bytes)) (room-written e) ∙ drop-at (rankingOf directions (starsOf bytes) tolerance) _ _ (written-ranks .sized)
