@@ -1,7 +1,7 @@
 -- What a ranking by votes is: each row names each star exactly once, by falling votes, equal ones by rising number. Assumes nothing.
 use mathlib.Core.Path.{_≡_, refl, sym, ap, subst, _∙_}
 use mathlib.Core.Logic.{⊎-elim}
-use mathlib.Core.List.{List, [], _++_}
+use mathlib.Core.List.{List, _++_}
 use Prim.Native.Nat.{ℕ, zero, suc, _+_, _*_, _≤_, _<_}
 use native.Mathlib.Decide.{decLt}
 use native.Mathlib.Nat.{suc-mul, zero-mul, not-suc-le-zero, mul-le-mul-right}
@@ -9,7 +9,7 @@ use native.Mathlib.Omega.{arith}
 use lib.IntN.{ℤ}
 use lib.ListN.{length, getD, length-append, List·getD-append}
 use lib.Seq.{getD-append-add}
-use Rattle.sorting.specs.Order.{put, ordered}
+use Rattle.sorting.specs.Order.{ordered}
 use Rattle.sorting.specs.Laws.{count, each-once, below-all, in-order, put-length, Ahead, InOrder}
 use Rattle.votes.specs.Votes.{triples, votesOf}
 use Rattle.ranking.specs.Row.{every}

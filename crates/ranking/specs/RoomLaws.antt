@@ -1,18 +1,16 @@
 -- What the call that ranks is for: when it is accepted, and what it leaves in the room. Assumes nothing.
-use mathlib.Core.Bool.{Bool, true, false, not}
 use mathlib.Core.Path.{_≡_, refl, sym, ap, subst, _∙_}
 use mathlib.Core.List.{List, _++_}
-use Prim.Native.Nat.{ℕ, _+_, _*_, _≤_, _<_}
+use Prim.Native.Nat.{ℕ, _+_, _*_, _≤_}
 use native.Mathlib.Omega.{arith}
-use borrow.Author.Tests.{not-true, not-false, leb-true, ltb-false}
-use lib.Dec.{leb, ltb}
+use borrow.Author.Tests.{not-false, leb-true, ltb-false}
 use lib.IntN.{ℤ}
 use lib.ListN.{length, take, drop}
 use lib.Seq.{take-at, drop-at}
 use Rattle.refusal.specs.declared.Refusal.{Refusal}
 use Rattle.refusal.specs.declared.Outcome.{Outcome}
 use Rattle.refusal.specs.declared.Outcome.the-variants.{Accepted, Refused}
-use Rattle.refusal.specs.Table.{lowest, answered}
+use Rattle.refusal.specs.Table.{lowest}
 use Rattle.refusal.specs.Laws.{Silent, accepted-silent}
 use Rattle.direction.specs.List.{listOk}
 use Rattle.direction.specs.ListLaws.{directionsIn, Directions, ok-directions, directions-ok}
@@ -25,7 +23,7 @@ use Rattle.catalogue.specs.ValidStars.{valid-length, valid-within}
 use Rattle.votes.specs.Votes.{triples, Listed}
 use Rattle.ranking.specs.Ranking.{rankingOf}
 use Rattle.ranking.specs.Laws.{Ranks, ranks}
-use Rattle.ranking.specs.Refusals.{toleranceOk, roomShort, rowsBeside, refusalsOf}
+use Rattle.ranking.specs.Refusals.{toleranceOk, rowsBeside, refusalsOf}
 use Rattle.ranking.specs.RefusalSteps.{none-refused, outcome-joined}
 use Rattle.ranking.specs.Room.{rankOutcomeOf, roomAfter}
 

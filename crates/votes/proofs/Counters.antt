@@ -1,8 +1,8 @@
 -- The counters while star a is counted against the stars before it: those below b have the pair with a, those from b on do not yet. Assumes nothing.
 use mathlib.Core.Bool.{cond}
-use mathlib.Core.Path.{_≡_, refl, sym, ap, _∙_}
+use mathlib.Core.Path.{_≡_, sym, ap, _∙_}
 use mathlib.Core.List.{List}
-use Prim.Native.Nat.{ℕ, _+_, _*_, _≤_, _<_}
+use Prim.Native.Nat.{ℕ, _+_, _≤_, _<_}
 use native.Mathlib.Decide.{ℕ-discrete, decLt}
 use native.Mathlib.Omega.{arith}
 use borrow.Author.Count.{below-more}
@@ -14,7 +14,9 @@ use Rattle.vectors.specs.Triples.{pairDot}
 use Rattle.votes.specs.Counting.{pairs}
 use Rattle.votes.specs.CountingLaws.{pairs-same}
 use Rattle.votes.specs.Votes.{triples, isVote, votesOf, countersOf}
-use Rattle.votes.specs.Laws.{Setting, setting, voteBy, from, between, soFar, between-comm, from-other, from-self, so-far-within, so-far-beyond, firsts-length, firsts-at}
+use Rattle.votes.specs.Laws.{firsts-length, firsts-at}
+use Rattle.votes.specs.Progress.{Setting, setting, voteBy, from, between, soFar}
+use Rattle.votes.specs.ProgressLaws.{between-comm, from-other, from-self, so-far-within, so-far-beyond}
 use Rattle.votes.proofs.Store.{at-zeros}
 
 module _ (g : Setting) where

@@ -3,3 +3,5 @@ pub mod Counting
 pub mod CountingLaws
 pub mod Votes
 pub mod Laws
+pub mod Progress
+pub mod ProgressLaws

@@ -7,7 +7,7 @@ ghost use Rattle.numbers.specs.Within.{Within};
 ghost use Rattle.vectors.specs.Triples.{AllWithin, pairDot};
 ghost use Rattle.votes.specs.Counting.{one, number};
 ghost use Rattle.votes.specs.Votes.{triples, Listed, countersOf};
-ghost use Rattle.votes.specs.Laws.{agreesWith, agreesBy, setting, soFar};
+ghost use Rattle.votes.specs.Progress.{agreesWith, agreesBy, setting, soFar};
 
 // The dot product of direction i with each direction.
 fn products_of(directions: &[i32], i: usize) -> [i64; 8]

@@ -1,17 +1,15 @@
 -- `votes::agreeing_with` meets its contract. The loop's invariant: `found` is the number among the first j. Assumes nothing.
 use mathlib.Core.Bool.{Bool}
-use mathlib.Core.Path.{_≡_, refl, sym, _∙_}
-use Prim.Native.Nat.{ℕ, _≤_, _<_, _-_, _+_}
+use mathlib.Core.Path.{_≡_, sym, _∙_}
+use Prim.Native.Nat.{ℕ, _≤_, _-_, _+_}
 use native.Mathlib.Omega.{arith}
 use borrow.Author.Needs.{needs}
-use lib.IntN.{pos}
-use lib.ListN.{length, getD}
 use mir.Syntax.{w64}
 use mir.Val.{toZ, ofZ}
 use Rattle.numbers.specs.Num.{Num, arg, back, near}
 use Rattle.votes.specs.Counting.{one, number}
 use Rattle.votes.specs.CountingLaws.{one-most, number-next, number-most}
-use Rattle.votes.specs.Laws.{agreesBy, agreesWith}
+use Rattle.votes.specs.Progress.{agreesBy, agreesWith}
 use Rattle.votes.proofs.agreeing_with.Statement.{statement}
 use Rattle.votes.proofs.agreeing_with.Tie as tie
 

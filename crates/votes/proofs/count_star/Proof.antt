@@ -1,8 +1,7 @@
 -- `votes::count_star` meets its contract. The loop's invariant: the counters below b have their pair with star a, the others not yet, and `own`
 -- is what star a has from its pairs with the first b stars. Assumes nothing.
 use mathlib.Core.Path.{_≡_, refl, sym, ap, _∙_}
-use mathlib.Core.List.{List}
-use Prim.Native.Nat.{ℕ, _≤_, _<_, _-_, _+_, _*_}
+use Prim.Native.Nat.{ℕ, _≤_, _<_, _-_, _+_}
 use native.Mathlib.Omega.{arith}
 use borrow.Author.Count.{below-none}
 use borrow.Author.Needs.{needs}
@@ -10,7 +9,8 @@ use lib.ListN.{length, getD, length-set}
 use mir.Syntax.{w64}
 use Rattle.numbers.specs.Num.{arg, kept, near}
 use Rattle.votes.specs.Counting.{number}
-use Rattle.votes.specs.Laws.{Setting, setting, agreesWith, from, between, from-none, from-most, between-most}
+use Rattle.votes.specs.Progress.{Setting, setting, agreesWith, from, between}
+use Rattle.votes.specs.ProgressLaws.{from-none, from-most, between-most}
 use Rattle.votes.proofs.Counters as C
 use Rattle.votes.proofs.count_star.Statement.{statement}
 use Rattle.votes.proofs.count_star.Tie as tie
@@ -41,7 +41,10 @@ gives c =
     c .agreeing-with .ensures ∙ (λ k. number (x .count) (agreesWith (x .products .now) (x .i) (kept w64 (d .ok) (d .ensures .0) k) (x .tolerance)))
 
 -- how large the counters are
-raised-most : (c : tie.After-slice-known2 Inv-loop μ-loop) → let l = c .before .before .before .before .loop in (getD (l .votes) (l .b) 0 + c .before .agreeing-with .result ≤ 4104) × (l .own + c .before .agreeing-with .result ≤ 4104)
+raised-most : (c : tie.After-slice-known2 Inv-loop μ-loop)
+    → let l = c .before .before .before .before .loop in
+    let more = c .before .agreeing-with .result in
+    (getD (l .votes) (l .b) 0 + more ≤ 4104) × (l .own + more ≤ 4104)
 raised-most c =
     let l = c .before .before .before .before .loop in
     let s = c .before .before .before .before .before .before in

@@ -3,7 +3,7 @@ use mathlib.Core.Path.{_≡_, sym, _∙_}
 use borrow.Author.Needs.{needs}
 use borrow.Author.Tests.{eq-eqb, ne-eqb}
 use mir.Syntax.{w64}
-use Rattle.numbers.specs.Num.{arg, back, near}
+use Rattle.numbers.specs.Num.{arg, back}
 use Rattle.vectors.specs.Agree.{agreeing}
 use Rattle.votes.proofs.vote.Statement.{statement}
 use Rattle.votes.proofs.vote.Tie as tie

@@ -1,11 +1,11 @@
 -- `votes::votes_for` meets its contract. The loop's invariant: the first a stars are counted against each other. Assumes nothing.
-use mathlib.Core.Path.{_≡_, refl, sym, ap, _∙_}
-use Prim.Native.Nat.{ℕ, _≤_, _<_, _-_, _+_}
+use mathlib.Core.Path.{_≡_, ap, _∙_}
+use Prim.Native.Nat.{ℕ, _≤_, _-_}
 use native.Mathlib.Omega.{arith}
 use borrow.Author.Needs.{needs}
 use lib.ListN.{length, getD}
 use Rattle.votes.specs.Votes.{triples}
-use Rattle.votes.specs.Laws.{setting, soFar}
+use Rattle.votes.specs.Progress.{setting, soFar}
 use Rattle.votes.proofs.Counters.{none-counted, all-counted}
 use Rattle.votes.proofs.votes_for.Statement.{statement}
 use Rattle.votes.proofs.votes_for.Tie as tie

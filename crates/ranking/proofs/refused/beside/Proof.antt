@@ -1,12 +1,10 @@
 -- `refused::beside` meets its contract: each test on the way is a row's. Assumes nothing.
-use mathlib.Core.Bool.{true, false}
+use mathlib.Core.Bool.{true}
 use mathlib.Core.Path.{_≡_, sym, _∙_}
-use Prim.Native.Nat.{ℕ, _≤_, _<_, _/_, _*_}
 use native.Mathlib.Nat.{mul-le-mul}
 use native.Mathlib.Omega.{arith}
 use borrow.Author.Needs.{needs}
 use borrow.Author.Tests.{not-true, not-false}
-use lib.ListN.{length}
 use Rattle.direction.specs.List.{listOk}
 use Rattle.direction.specs.ListLaws.{ok-directions}
 use Rattle.ranking.specs.RefusalSteps.{list-refused, tolerance-refused, room-refused, none-refused}
