@@ -7,3 +7,4 @@ pub mod Refusals
 pub mod RefusalSteps
 pub mod Room
 pub mod RoomLaws
+pub mod Example
