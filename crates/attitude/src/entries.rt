@@ -39,7 +39,7 @@ fn row(a: i64, b: i64, c: i64, sky: Axes) -> Vec3
 }
 
 // The matrix that carries the sky's axes to the camera's.
-pub fn product(camera: Axes, sky: Axes) -> Matrix
+pub(crate) fn product(camera: Axes, sky: Axes) -> Matrix
     requires { ⌜ AxesWithin camera ⌝ }
     requires { ⌜ AxesWithin sky ⌝ }
     ensures { λ r. ⌜ r ≡ productOf camera sky ⌝ }

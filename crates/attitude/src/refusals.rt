@@ -12,7 +12,7 @@ ghost use Rattle.attitude.specs.Attitude.{beyond, tooClose, refusalsOf};
 const LARGEST: u64 = 1_000_000_000;
 
 // The tests in the order of the numbers.
-pub fn tested(v1: Vec3, v2: Vec3, w1: Vec3, w2: Vec3) -> Outcome
+pub(crate) fn tested(v1: Vec3, v2: Vec3, w1: Vec3, w2: Vec3) -> Outcome
     ensures { λ r. ⌜ r ≡ lowest (refusalsOf v1 v2 w1 w2) ⌝ }
 {
     if out_of_range(v1, v2) {

@@ -8,7 +8,7 @@ ghost use Rattle.vectors.specs.Vectors.{Within3};
 ghost use Rattle.attitude.specs.Scale.{largestOf, overOf, shiftOf, reducedOf};
 
 // 2^30: d is below it, and a cross product below it belongs to two vectors that are too close.
-pub const LIMIT: u64 = 0x4000_0000;
+pub(crate) const LIMIT: u64 = 0x4000_0000;
 
 fn larger(a: u64, b: u64) -> u64
     ensures { λ r. ⌜ r ≡ max a b ⌝ }
@@ -17,7 +17,7 @@ fn larger(a: u64, b: u64) -> u64
 }
 
 // The largest magnitude of the three.
-pub fn largest(v: Vec3) -> u64
+pub(crate) fn largest(v: Vec3) -> u64
     ensures { λ r. ⌜ r ≡ largestOf v ⌝ }
 {
     larger(
@@ -27,7 +27,7 @@ pub fn largest(v: Vec3) -> u64
 }
 
 // v over n, each quotient toward zero.
-pub fn over(v: Vec3, n: i64) -> Vec3
+pub(crate) fn over(v: Vec3, n: i64) -> Vec3
     requires { ⌜ Within3 2000000000000000000 v ⌝ }
     requires { ⌜ pos 0 <ℤ n ⌝ }
     ensures { λ r. ⌜ r ≡ overOf v n ⌝ }
@@ -61,7 +61,7 @@ fn power(k: u64) -> i64
 }
 
 // The cross product c over the smallest power of two that brings every magnitude below 2^30.
-pub fn reduced(c: Vec3) -> Vec3
+pub(crate) fn reduced(c: Vec3) -> Vec3
     requires { ⌜ Within3 2000000000000000000 c ⌝ }
     ensures { λ r. ⌜ r ≡ reducedOf c ⌝ }
 {

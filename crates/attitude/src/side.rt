@@ -10,7 +10,7 @@ ghost use Rattle.attitude.specs.Scale.{largestOf};
 ghost use Rattle.attitude.specs.Side.{squaresOf, unitBy, unitOf, axesOf};
 
 // The length of an axis.
-pub const ONE: i64 = 1_000_000_000;
+pub(crate) const ONE: i64 = 1_000_000_000;
 
 // t1 along the first direction, t2 along the cross product of the two, t3 across both.
 pub struct Axes {
@@ -56,7 +56,7 @@ fn unit(d: Vec3) -> Vec3
 }
 
 // The axes of a side whose vectors are not too close.
-pub fn axes_of(v: Vec3, w: Vec3) -> Axes
+pub(crate) fn axes_of(v: Vec3, w: Vec3) -> Axes
     requires { ⌜ Within3 1000000000 v ⌝ }
     requires { ⌜ Within3 1000000000 w ⌝ }
     requires { ⌜ 2 ^ 30 ≤ largestOf (crossOf v w) ⌝ }

@@ -50,8 +50,8 @@ axes-of-requires-2 c κs = let o = left (c .before) in search needs
 product-requires : tie.Need-product-requires
 product-requires c κs =
     let o = left (c .before .before) .0 in
-    let camera : AxesWithin (c .before .axes-of .result) = rw (c .before .axes-of .ensures) (axes-within _ _ (o .v1)) in
-    let sky : AxesWithin (c .axes-of2 .result) = rw (c .axes-of2 .ensures) (axes-within _ _ (o .w1)) in
+    let camera : AxesWithin (c .before .axes-of .result) = rw (c .before .axes-of .ensures) (axes-within _ _ (search needs)) in
+    let sky : AxesWithin (c .axes-of2 .result) = rw (c .axes-of2 .ensures) (axes-within _ _ (search needs)) in
     search needs
 
 returns : tie.Need-returns

@@ -42,16 +42,16 @@ module _ (c : tie.After-abs3) where
   z-le = square-le (start .pre .z) (c .abs3 .ensures)
 
 mul-result : tie.Need-mul-result
-mul-result c = omega (arith, x-le c)
+mul-result c = omega (arith, x-le c, y-le c, z-le c)
 
 mul-result-2 : tie.Need-mul-result-2
-mul-result-2 c = omega (arith, y-le c)
+mul-result-2 c = omega (arith, x-le c, y-le c, z-le c)
 
 add-result : tie.Need-add-result
-add-result c = omega (arith, x-le c, y-le c)
+add-result c = omega (arith, x-le c, y-le c, z-le c)
 
 mul-result-3 : tie.Need-mul-result-3
-mul-result-3 c = omega (arith, z-le c)
+mul-result-3 c = omega (arith, x-le c, y-le c, z-le c)
 
 add-result-2 : tie.Need-add-result-2
 add-result-2 c = omega (arith, x-le c, y-le c, z-le c)
