@@ -7,13 +7,12 @@ use Prim.Native.Nat.{ℕ, zero, suc, _+_, _-_, _*_, _/_, _≤_, _<_}
 use native.Mathlib.Nat.{zero-div, mul-zero}
 use native.Mathlib.Omega.{arith}
 use lib.Dec.{leb}
-use lib.IntN.{ℤ, pos, negsuc, natAbs, negℤ, _+ℤ_, _-ℤ_, _*ℤ_, +ℤ-assoc, +ℤ-comm, +ℤ-invr, +ℤ-idr, +ℤ-idl, negℤ-+ℤ}
+use lib.IntN.{ℤ, pos, natAbs, negℤ, _+ℤ_, _-ℤ_, _*ℤ_, +ℤ-assoc, +ℤ-comm, +ℤ-invr, +ℤ-idr, +ℤ-idl, negℤ-+ℤ}
 use lib.Signed.{quotZ}
 use borrow.Author.Tests.{leb-true, leb-false}
 use Rattle.centroid.specs.Sums.{sum-below, sumℤ-below, quotient-small}
 use Rattle.centroid.specs.Centroid.{weight, brightness, offset, shiftX, shiftY, along, centroidOf}
 use Rattle.centroid.specs.Moments.{momentX, momentY, position, fromMoments, MomentsOf}
-use Rattle.centroid.specs.declared.Centroid.{Centroid}
 use Rattle.centroid.specs.declared.Moments.{Moments}
 
 -- the difference of two numbers

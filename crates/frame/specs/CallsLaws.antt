@@ -1,31 +1,29 @@
 -- What the calls give, in words: which refusal, which stars, in which order, and how large their numbers are. Assumes nothing.
-use mathlib.Core.Bool.{Bool, true, false, cond}
-use mathlib.Core.Path.{_≡_, refl, sym, ap, _∙_}
+use mathlib.Core.Bool.{Bool, true, false}
+use mathlib.Core.Path.{_≡_, refl, ap, _∙_}
 use mathlib.Core.List.{List, [], _∷_, _++_, map}
-use Prim.Native.Nat.{ℕ, zero, suc, _+_, _-_, _*_, _/_, _%_, _≤_, _<_, min}
+use Prim.Native.Nat.{ℕ, zero, suc, _+_, _-_, _*_, _/_, _%_, _≤_, _<_}
 use native.Mathlib.Nat.{not-suc-le-zero}
 use native.Mathlib.Decide.{decLt}
 use native.Mathlib.Omega.{arith}
-use lib.ListN.{length, take, getD, replicate, length-map, length-append, List·getD-append, getD-replicate}
+use lib.ListN.{length, getD, replicate, length-map, List·getD-append, getD-replicate}
 use lib.Seq.{getD-take, getD-append-add}
-use lib.Dec.{eqb}
 use borrow.Author.Tests.{eq-eqb}
 use Rattle.refusal.specs.Table.{refusalOf, lowest, answered}
 use Rattle.refusal.specs.Laws.{Silent, Given, given-refused, refused-given, silent-accepted}
 use Rattle.refusal.specs.declared.Outcome.{Outcome}
 use Rattle.refusal.specs.declared.Outcome.the-variants.{Accepted}
 use Rattle.sorting.specs.Order.{pick, put, ordered}
-use Rattle.sorting.specs.Laws.{by-test, put-length, count, one, each-once, none-beyond, InOrder, in-order}
+use Rattle.sorting.specs.Laws.{put-length, count, one, each-once, none-beyond, InOrder, in-order}
 use Rattle.centroid.specs.declared.Centroid.{Centroid}
-use Rattle.verdict.specs.Verdict.{verdictOf, kindOf}
+use Rattle.verdict.specs.Verdict.{verdictOf}
 use Rattle.verdict.specs.Laws.{measured-range}
 use Rattle.verdict.specs.declared.Kind.{Kind}
 use Rattle.verdict.specs.declared.Kind.the-variants.{Dark, Beaten, Edge, Flat, Measured}
 use Rattle.frame.specs.Input.{frameRows, pixelRows}
-use Rattle.frame.specs.Stars.{bright, nought, isMeasured, number, numberOf, kindAt, starAt, measuredPixels, measuredOf, firstEight, reportOf, nothing}
+use Rattle.frame.specs.Stars.{bright, nought, isMeasured, number, numberOf, kindAt, starAt, measuredPixels, measuredOf, reportOf, nothing}
 use Rattle.frame.specs.StarsLaws.{star-is}
 use Rattle.frame.specs.Calls.{judgementOf, listingOf}
-use Rattle.frame.specs.declared.Judgement.{Judgement}
 use Rattle.frame.specs.declared.Judgement.the-variants.{Refused, Judged}
 
 -- ---- which refusal: the one whose row applies while none before it does (`Given`), and none exactly when no row applies (`Silent`)

@@ -1,5 +1,5 @@
 -- The refusals of a call on a frame: 1 to 4, and 15 where it names a pixel. Each row's condition is document 01's sentence. Assumes nothing.
-use mathlib.Core.Bool.{Bool, true, false, cond, not, _&&_, _||_}
+use mathlib.Core.Bool.{Bool, cond, not, _&&_, _||_}
 use mathlib.Core.List.{List, [], _∷_, _++_}
 use Prim.Native.Nat.{ℕ, suc, _*_}
 use lib.ListN.{length}

@@ -1,6 +1,6 @@
 -- What an accepted call has passed, and which sample `firstOver` names. Assumes nothing.
 use mathlib.Core.Bool.{Bool, true, false, cond, not, _&&_, _||_}
-use mathlib.Core.Path.{_≡_, refl, sym, ap, _∙_}
+use mathlib.Core.Path.{_≡_, refl, _∙_}
 use mathlib.Core.List.{List, [], _∷_, _++_}
 use Prim.Native.Nat.{ℕ, zero, suc, _+_, _*_, _≤_, _<_}
 use native.Mathlib.Nat.{mul-comm, not-suc-le-zero}
@@ -8,13 +8,12 @@ use native.Mathlib.Numerals.{add-one}
 use native.Mathlib.Omega.{arith}
 use lib.ListN.{length, drop, getD, drop-of-length-le}
 use lib.Seq.{drop-cons}
-use lib.Dec.{ltb, leb, eqb}
+use lib.Dec.{ltb, leb}
 use borrow.Author.Tests.{lt-ltb, le-ltb, ltb-true, ltb-false, leb-true, leb-false, eqb-true, not-false}
 use Rattle.refusal.specs.Numbers as numbers
 use Rattle.refusal.specs.Table.{Row, row, refusalOf, lowest}
 use Rattle.refusal.specs.Laws.{Silent, accepted-silent, lowest-here, lowest-next}
 use Rattle.refusal.specs.declared.Refusal.{Refusal}
-use Rattle.refusal.specs.declared.Outcome.{Outcome}
 use Rattle.refusal.specs.declared.Outcome.the-variants.{Accepted, Refused}
 use Rattle.frame.specs.Input.{within, sizeOut, lengthOut, thresholdOut, firstOver, sampleOut, pixelOut, frameRows, pixelRows}
 

@@ -1,16 +1,15 @@
 -- What a verdict says of its pixel. Assumes nothing.
 use mathlib.Core.Bool.{Bool, true, false, cond, not, _&&_, _||_}
-use mathlib.Core.Path.{_≡_, refl, sym, ap, _∙_}
+use mathlib.Core.Path.{_≡_, refl, ap}
 use mathlib.Core.List.{List}
 use Prim.Native.Nat.{ℕ, _+_, _-_, _≤_, _<_}
 use native.Mathlib.Omega.{arith}
 use lib.Dec.{ltb, eqb}
-use borrow.Author.Tests.{ltb-false, eqb-false, lt-ltb, le-ltb, not-true}
+use borrow.Author.Tests.{ltb-false, eqb-false}
 use Rattle.window.specs.Window.{at, beaten}
 use Rattle.centroid.specs.Centroid.{brightness, centroidOf}
 use Rattle.centroid.specs.Range.{x-close, y-close}
 use Rattle.centroid.specs.declared.Centroid.{Centroid}
-use Rattle.verdict.specs.declared.Kind.{Kind}
 use Rattle.verdict.specs.declared.Kind.the-variants.{Dark, Beaten, Edge, Flat, Measured}
 use Rattle.verdict.specs.Verdict.{dark, edge, peak, peakKind, kindOf}
 

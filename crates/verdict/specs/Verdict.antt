@@ -1,11 +1,10 @@
 -- Document 01, "Frame and pixel verdicts": a pixel's verdict. Assumes nothing.
-use mathlib.Core.Bool.{Bool, true, false, cond, not, _&&_, _||_}
+use mathlib.Core.Bool.{Bool, cond, not, _&&_, _||_}
 use mathlib.Core.List.{List}
 use Prim.Native.Nat.{ℕ, _-_}
 use lib.Dec.{ltb, eqb}
 use Rattle.window.specs.Window.{at, beaten}
 use Rattle.centroid.specs.Centroid.{brightness, centroidOf}
-use Rattle.centroid.specs.declared.Centroid.{Centroid}
 use Rattle.verdict.specs.declared.Kind.{Kind}
 use Rattle.verdict.specs.declared.Kind.the-variants.{Dark, Beaten, Edge, Flat, Measured}
 use Rattle.verdict.specs.declared.Verdict.{Verdict}

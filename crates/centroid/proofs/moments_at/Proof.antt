@@ -1,7 +1,7 @@
 -- `centroid::moments_at` meets its contract. The invariants: the three sums are those over the rows passed, and over the places passed in this
 -- row. Assumes nothing.
-use mathlib.Core.Path.{_≡_, refl, sym, ap, _∙_}
-use Prim.Native.Nat.{ℕ, _≤_, _<_, _-_, _+_, _*_}
+use mathlib.Core.Path.{_≡_, ap, _∙_}
+use Prim.Native.Nat.{ℕ, _≤_, _-_, _+_, _*_}
 use native.Mathlib.Omega.{arith}
 use borrow.Author.Needs.{needs}
 use Rattle.centroid.specs.Sums.{sum-below, sum-next, times-small}

@@ -6,7 +6,7 @@ use native.Mathlib.Omega.{arith}
 use borrow.Author.Tests.{eq-eqb, ne-eqb}
 use Rattle.centroid.specs.Signed.{from-moments}
 use Rattle.verdict.specs.Verdict.{peakKind}
-use Rattle.verdict.specs.Laws.{Inside, inside}
+use Rattle.verdict.specs.Laws.{inside}
 use Rattle.verdict.proofs.peak_kind.Statement.{statement}
 use Rattle.verdict.proofs.peak_kind.Tie as tie
 
