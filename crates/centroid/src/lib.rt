@@ -2,7 +2,7 @@
 ghost use mathlib.Core.Path.{_≡_};
 ghost use Prim.Native.Nat.{_+_, _*_, _<_, _≤_};
 ghost use lib.ListN.{length};
-ghost use Rattle.centroid.specs.Border.{borderRow, borderColumn, borderSum};
+ghost use Rattle.centroid.specs.Border.{borderSum};
 ghost use Rattle.centroid.specs.Centroid.{weight};
 ghost use Rattle.centroid.specs.Moments.{position, fromMoments, MomentsOf, Small};
 
@@ -48,30 +48,17 @@ pub struct Moments {
     pub down: u64,
 }
 
-fn border_row(k: usize) -> usize
-    requires { ⌜ k < 24 ⌝ }
-    ensures { λ r. ⌜ (r ≡ borderRow k) × (r < 7) ⌝ }
-{
-    BORDER[k][0]
-}
-
-fn border_column(k: usize) -> usize
-    requires { ⌜ k < 24 ⌝ }
-    ensures { λ r. ⌜ (r ≡ borderColumn k) × (r < 7) ⌝ }
-{
-    BORDER[k][1]
-}
-
 // The sum of the border.
 fn border_sum(samples: &[u16], width: usize, height: usize, row: usize, column: usize) -> u64
     requires { ⌜ (length (now samples) ≡ height * width) × (3 ≤ row) × (row + 3 < height) × (3 ≤ column) × (column + 3 < width) ⌝ }
     ensures { λ r. ⌜ (r ≡ borderSum (now (samples .entry)) width row column) × (r < 65536 * 24) ⌝ }
 {
+    let border = BORDER;
     let mut sum: u64 = 0;
     let mut k: usize = 0;
     while k < 24 {
-        let r = row - 3 + border_row(k);
-        let c = column - 3 + border_column(k);
+        let r = row - 3 + border[k][0];
+        let c = column - 3 + border[k][1];
         sum += window::sample(samples, width, height, r, c) as u64;
         k += 1;
     }
