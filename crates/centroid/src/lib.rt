@@ -6,7 +6,8 @@ ghost use Rattle.centroid.specs.Border.{borderSum};
 ghost use Rattle.centroid.specs.Centroid.{weight};
 ghost use Rattle.centroid.specs.Moments.{position, fromMoments, MomentsOf, Small};
 
-// The border of the window: row and column from the window's top left. The rule is in specs/Border: exactly the outer ring, each once.
+// The border of the window: row and column from the window's top left. Its rule, that it is exactly the outer ring, each place once, is
+// `border-ring` of specs/Border.
 const BORDER: [[usize; 2]; 24] = [
     [0, 0],
     [0, 1],
@@ -48,7 +49,7 @@ pub struct Moments {
     pub down: u64,
 }
 
-// The sum of the border.
+// The sum of the border. One copy of the table serves the whole loop.
 fn border_sum(samples: &[u16], width: usize, height: usize, row: usize, column: usize) -> u64
     requires { ⌜ (length (now samples) ≡ height * width) × (3 ≤ row) × (row + 3 < height) × (3 ≤ column) × (column + 3 < width) ⌝ }
     ensures { λ r. ⌜ (r ≡ borderSum (now (samples .entry)) width row column) × (r < 65536 * 24) ⌝ }

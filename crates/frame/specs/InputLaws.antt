@@ -1,4 +1,4 @@
--- What an accepted call has passed, and which sample `firstOver` names. Assumes nothing.
+-- Which sample `firstOver` names, and that a call is accepted exactly when its inputs are as document 01 has them. Assumes nothing.
 use mathlib.Core.Bool.{Bool, true, false, cond, not, _&&_, _||_}
 use mathlib.Core.Path.{_≡_, refl, _∙_}
 use mathlib.Core.List.{List, [], _∷_, _++_}
@@ -9,7 +9,7 @@ use native.Mathlib.Omega.{arith}
 use lib.ListN.{length, drop, getD, drop-of-length-le}
 use lib.Seq.{drop-cons}
 use lib.Dec.{ltb, leb}
-use borrow.Author.Tests.{lt-ltb, le-ltb, ltb-true, ltb-false, leb-true, leb-false, eqb-true, not-false}
+use borrow.Author.Tests.{lt-ltb, le-ltb, ltb-true, ltb-false, leb-true, leb-false, le-leb, eqb-true, eq-eqb, not-false}
 use Rattle.refusal.specs.Numbers as numbers
 use Rattle.refusal.specs.Table.{Row, row, refusalOf, lowest}
 use Rattle.refusal.specs.Laws.{Silent, accepted-silent, lowest-here, lowest-next}
@@ -77,6 +77,25 @@ over-first (x ∷ xs) (suc k) h g = go (ltb 4095 x) (over-first xs k (omega arit
     go true i = omega arith
     go false i = omega arith
 
+-- so none is above 4,095 exactly where the first is past the end
+none-over : (l : List ℕ) → length l ≤ firstOver l → (k : ℕ) → k < length l → getD l k 0 ≤ 4095
+none-over l h k p = go (ltb 4095 (getD l k 0)) refl
+  where
+    go : (b : Bool) → ltb 4095 (getD l k 0) ≡ b → getD l k 0 ≤ 4095
+    go true e = let f = over-first l k p (ltb-true 4095 (getD l k 0) e) in absurd (omega arith)
+    go false e = ltb-false 4095 (getD l k 0) e
+
+over-none : (l : List ℕ) → ((k : ℕ) → k < length l → getD l k 0 ≤ 4095) → sampleOut l ≡ false
+over-none l f = go (ltb (firstOver l) (length l)) refl
+  where
+    go : (b : Bool) → ltb (firstOver l) (length l) ≡ b → b ≡ false
+    go true e =
+        let p = ltb-true (firstOver l) (length l) e in
+        let q = f (firstOver l) p in
+        let r = first-over l p .0 in
+        absurd (omega arith)
+    go false e = refl
+
 -- ---- an accepted call
 
 -- the inputs of a frame, as document 01 has them
@@ -85,7 +104,7 @@ pub record Valid (samples : List ℕ) (width height threshold : ℕ) : Type 0 wh
   pub high : (7 ≤ height) × (height ≤ 1024)
   pub whole : length samples ≡ height * width
   pub reached : (1 ≤ threshold) × (threshold ≤ 4095)
-  pub small : length samples ≤ firstOver samples
+  pub small : (k : ℕ) → k < length samples → getD samples k 0 ≤ 4095
 
 module _ (samples : List ℕ) (width height threshold : ℕ) where
   valid : sizeOut width height ≡ false → lengthOut samples width height ≡ false → thresholdOut threshold ≡ false → sampleOut samples ≡ false → Valid samples width height threshold
@@ -96,7 +115,7 @@ module _ (samples : List ℕ) (width height threshold : ℕ) where
         high = within-says 7 1024 height (not-false _ (a .1));
         whole = eqb-true (length samples) (width * height) (not-false _ q) ∙ mul-comm width height;
         reached = within-says 1 4095 threshold (not-false _ r);
-        small = ltb-false (firstOver samples) (length samples) s;
+        small = none-over samples (ltb-false (firstOver samples) (length samples) s);
       }
 
   pub accepted-valid : lowest (frameRows samples width height threshold) ≡ Accepted → Valid samples width height threshold
@@ -104,6 +123,22 @@ module _ (samples : List ℕ) (width height threshold : ℕ) where
   accepted-valid e =
       let s = accepted-silent (frameRows samples width height threshold) e in
       valid (s .0) (s .1 .0) (s .1 .1 .0) (s .1 .1 .1 .0)
+
+  -- and a call with such inputs is accepted
+  pub valid-accepted : Valid samples width height threshold → lowest (frameRows samples width height threshold) ≡ Accepted
+  unfolding lowest
+  valid-accepted v =
+      let e : length samples ≡ width * height = v .whole ∙ mul-comm height width in
+      rw (
+        le-leb 7 width (v .wide .0),
+        le-leb width 1024 (v .wide .1),
+        le-leb 7 height (v .high .0),
+        le-leb height 1024 (v .high .1),
+        eq-eqb (length samples) (width * height) e,
+        le-leb 1 threshold (v .reached .0),
+        le-leb threshold 4095 (v .reached .1),
+        over-none samples (v .small),
+      )
 
   -- with a pixel that lies in the frame
   pub accepted-pixel : (r c : ℕ) → lowest (pixelRows samples width height threshold r c) ≡ Accepted → Valid samples width height threshold × (r < height) × (c < width)
