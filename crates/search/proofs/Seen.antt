@@ -1,6 +1,5 @@
 -- The table that marks the words seen in a row: it marks those, and no others. Assumes nothing.
 use mathlib.Core.Path.{_≡_, refl, sym, _∙_, ap}
-use mathlib.Core.Bool.{Bool, true, false}
 use mathlib.Core.List.{List}
 use mathlib.Core.Logic.{_⊎_, inl, inr, ⊎-elim}
 use Prim.Native.Nat.{ℕ, zero, suc, _+_, _≤_, _<_}
@@ -8,22 +7,13 @@ use native.Mathlib.Omega.{arith}
 use native.Mathlib.Nat.{eq-or-lt-of-le}
 use lib.Seq.{getD-set-same, getD-set-other}
 use lib.ListN.{getD, set, length, length-set, replicate, length-replicate}
-use lib.Dec.{eqb}
-use borrow.Author.Tests.{eqb-true, eqb-false}
 use Rattle.search.specs.Once.{word}
-use Rattle.search.proofs.Words.{zeros-at}
+use Rattle.search.proofs.Words.{zeros-at, eq-or}
 
 pub record Seen (words : List ℕ) (base k : ℕ) (seen : List ℕ) : Type 0 where
   pub size : 512 ≤ length seen
   pub marks : (l : ℕ) → l < k → getD seen (word words base l) 0 ≡ 1
   pub only : (w : ℕ) → (getD seen w 0 ≡ 0) ⊎ ((l : ℕ) × (l < k) × (word words base l ≡ w))
-
-eq-or : (a b : ℕ) → (a ≡ b) ⊎ (a ≡ b → ⊥)
-eq-or a b = by (eqb a b) refl
-  where
-    by : (t : Bool) → eqb a b ≡ t → (a ≡ b) ⊎ (a ≡ b → ⊥)
-    by true e = inl (eqb-true a b e)
-    by false e = inr (eqb-false a b e)
 
 module _ (words : List ℕ) (base k : ℕ) (seen : List ℕ) (h : Seen words base k seen) where
   pub hit : (getD seen (word words base k) 0 ≡ 0 → ⊥) → (l : ℕ) × (l < k) × (word words base l ≡ word words base k)
