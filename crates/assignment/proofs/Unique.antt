@@ -8,7 +8,7 @@ use Prim.Native.Nat.{ℕ, zero, suc, _≤_, _<_}
 use native.Mathlib.Omega.{arith}
 use native.Mathlib.Nat.{eq-or-lt-of-le}
 use Rattle.assignment.specs.Order.{Ranking, Ranked, Same, Earlier, Before, FirstOf, at}
-use Rattle.assignment.proofs.Tests.{le-or-lt, never}
+use Rattle.assignment.proofs.Tests.{le-or-lt}
 
 module _ (g : Ranking) (R : Ranked g) where
   one-way : (i a b : ℕ) → i < g .dirs → Earlier g i a b → Earlier g i b a → ⊥

@@ -13,7 +13,7 @@ use Rattle.refusal.specs.declared.Refusal.{Refusal}
 use Rattle.refusal.specs.declared.Outcome.{Outcome}
 use Rattle.refusal.specs.declared.Outcome.the-variants.{Accepted, Refused}
 use Rattle.refusal.specs.Table.{Row, lowest, answered}
-use Rattle.assignment.specs.Order.{Ranked, FirstOf, Same, at}
+use Rattle.assignment.specs.Order.{Ranked, FirstOf, Same}
 use Rattle.assignment.specs.Problem.{Problem, order, Passing}
 use Rattle.assignment.specs.Run.{nothing, fit, isFit, words, firstFit}
 use Rattle.assignment.specs.Run as computed

@@ -1,21 +1,19 @@
 -- The test of a lent ranking says that each row names each star exactly once, and says so exactly then. Assumes nothing.
-use mathlib.Core.Path.{_≡_, refl, sym, _∙_, ap, subst}
+use mathlib.Core.Path.{_≡_, refl, sym, _∙_, ap}
 use mathlib.Core.Bool.{Bool, true, false, cond}
 use mathlib.Core.List.{List}
 use mathlib.Core.Logic.{⊎-elim}
 use Prim.Native.Nat.{ℕ, suc, _+_, _*_, _-_, _/_, _%_, _≤_, _<_}
 use native.Mathlib.Omega.{arith}
-use native.Mathlib.Nat.{eq-or-lt-of-le, mul-le-mul-right, suc-mul, mul-add-div-right, mul-add-mod-self-right, mod-eq-of-lt, mod-lt, div-eq-of-lt, div-add-mod', div-lt-iff-lt-mul}
-use lib.ListN.{getD, length}
+use native.Mathlib.Nat.{eq-or-lt-of-le, suc-mul, mul-add-div-right, mul-add-mod-self-right, mod-eq-of-lt, mod-lt, div-eq-of-lt, div-lt-iff-lt-mul}
+use lib.ListN.{length}
 use lib.Dec.{leb, ltb, eqb}
 use borrow.Author.Tests.{le-leb, lt-leb, leb-false, eq-eqb, ne-eqb, eqb-true, eqb-false, lt-ltb, le-ltb, ltb-false}
 use Rattle.counting.specs.First.{first, first-is, first-of}
 use Rattle.assignment.specs.Order.{Ranked}
-use Rattle.assignment.specs.Tests.{some}
 use Rattle.assignment.proofs.Tests as tests
-use Rattle.assignment.proofs.Tests.{le-or-lt, never, either}
+use Rattle.assignment.proofs.Tests.{le-or-lt}
 use Rattle.assignment.proofs.Pigeon.{Into, onto}
-use Rattle.search.specs.declared.Judgement.{Judgement}
 use Rattle.search.specs.declared.Judgement.the-variants.{Good, Bad}
 use Rattle.search.specs.Once.{rankingOf, word, clash, clashAt, judged, lentOf}
 use Rattle.search.proofs.Rows.{row-fits}

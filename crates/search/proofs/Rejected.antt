@@ -1,29 +1,27 @@
 -- What it takes for none of the refusals 6 to 12 to apply. Assumes nothing.
 use mathlib.Core.Path.{_≡_, refl, sym, _∙_, ap}
-use mathlib.Core.Bool.{Bool, true, false, not, cond}
+use mathlib.Core.Bool.{Bool, true, false, cond}
 use mathlib.Core.List.{List, [], _∷_, _++_}
-use Prim.Native.Nat.{ℕ, _*_, _≤_, _<_}
+use Prim.Native.Nat.{ℕ, _≤_, _<_}
 use native.Mathlib.Omega.{arith}
 use lib.IntN.{ℤ}
-use lib.ListN.{length}
-use lib.Dec.{leb, ltb}
 use borrow.Author.Tests.{lt-ltb, le-ltb, ltb-false, not-false}
 use Rattle.refusal.specs.declared.Refusal.{Refusal}
 use Rattle.refusal.specs.declared.Outcome.{Outcome}
 use Rattle.refusal.specs.declared.Outcome.the-variants.{Accepted, Refused}
 use Rattle.refusal.specs.Numbers as number
 use Rattle.refusal.specs.Table.{Row, refusalOf, lowest, answered}
-use Rattle.refusal.specs.Laws.{Silent, accepted-silent, lowest-here, lowest-next}
+use Rattle.refusal.specs.Laws.{Silent, accepted-silent}
 use Rattle.assignment.specs.Order.{Ranked}
 use Rattle.assignment.proofs.Tests as tests
 use Rattle.direction.specs.List.{listOk}
-use Rattle.direction.specs.ListLaws.{directionsIn, Directions, ok-directions}
+use Rattle.direction.specs.ListLaws.{directionsIn}
 use Rattle.catalogue.specs.Format.{recordsIn}
 use Rattle.catalogue.specs.Check as catalogue
 use Rattle.search.specs.declared.Judgement.{Judgement}
 use Rattle.search.specs.declared.Judgement.the-variants.{Good, Bad}
 use Rattle.search.specs.Once.{rankingOf, lentOf}
-use Rattle.search.specs.Refusals.{demandOk, isBad, placeOf, rowsBeside, refusalsOf}
+use Rattle.search.specs.Refusals.{demandOk, isBad, rowsBeside, refusalsOf}
 use Rattle.search.proofs.Once.{good-ranked}
 
 -- the rows of two lists: the first list's refusal, or the second's

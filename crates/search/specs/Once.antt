@@ -1,6 +1,6 @@
 -- Document 01's refusal 11: the ranking read is not exactly directions x stars long, or an entry is out of range or repeats an earlier one of
 -- its row; the place is the first such entry's, counted over the whole ranking. Assumes nothing.
-use mathlib.Core.Bool.{Bool, true, false, cond, _||_}
+use mathlib.Core.Bool.{Bool, cond, _||_}
 use mathlib.Core.List.{List}
 use Prim.Native.Nat.{ℕ, _+_, _*_, _/_, _%_}
 use lib.ListN.{getD, length}

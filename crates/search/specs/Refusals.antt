@@ -1,10 +1,9 @@
 -- The search's refusals 6 to 12 of document 01's table, in rising number. Assumes nothing.
 use mathlib.Core.Bool.{Bool, true, false, not, _&&_}
 use mathlib.Core.List.{List, [], _∷_, _++_}
-use Prim.Native.Nat.{ℕ, _/_}
+use Prim.Native.Nat.{ℕ}
 use lib.Dec.{leb, ltb}
 use lib.IntN.{ℤ}
-use lib.ListN.{length}
 use Rattle.refusal.specs.Numbers as number
 use Rattle.refusal.specs.Table.{Row, row, rowAt}
 use Rattle.direction.specs.List.{listOk}

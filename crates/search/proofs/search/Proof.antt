@@ -15,7 +15,7 @@ use Rattle.catalogue.specs.Valid.{Valid}
 use Rattle.catalogue.specs.ValidStars.{padded-length, valid-front}
 use Rattle.search.specs.Fit.{setupOf, Input, FirstFit}
 use Rattle.search.specs.Refusals.{refusalsOf}
-use Rattle.search.specs.Identified.{answerOf, Identified}
+use Rattle.search.specs.Identified.{Identified}
 use Rattle.search.proofs.Answers as answers
 use Rattle.search.proofs.search.Statement.{statement}
 use Rattle.search.proofs.search.Tie as tie

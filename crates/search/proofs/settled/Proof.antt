@@ -1,9 +1,6 @@
 -- `search::settled` meets its contract: one record for each outcome. Assumes nothing.
 use borrow.Author.Needs.{needs}
-use mathlib.Core.Path.{sym, ap, _∙_}
-use mathlib.Core.Bool.{Bool, cond}
 use lib.ListN.{replicate}
-use Rattle.search.specs.Identified.{refusedWith, noFit, answerOf}
 use Rattle.search.proofs.settled.Statement.{statement}
 use Rattle.search.proofs.settled.Tie as tie
 

@@ -1,5 +1,4 @@
 -- `search::fit::measured` meets its contract. The invariant: the first j dot products are there. Assumes nothing.
-use borrow.Author.Needs.{needs}
 use mathlib.Core.Path.{subst}
 use Prim.Native.Nat.{ℕ, _≤_, _-_}
 use native.Mathlib.Omega.{arith}

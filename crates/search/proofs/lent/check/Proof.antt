@@ -1,5 +1,4 @@
 -- `search::lent::check` meets its contract. The invariant: no word of the rows passed clashes. Assumes nothing.
-use borrow.Author.Needs.{needs}
 use mathlib.Core.Path.{_≡_}
 use mathlib.Core.Bool.{false}
 use mathlib.Core.List.{List}
