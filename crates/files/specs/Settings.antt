@@ -4,9 +4,10 @@ use mathlib.Core.Bool.{cond}
 use mathlib.Core.List.{List}
 use Prim.Native.Nat.{ℕ}
 use lib.Dec.{eqb}
+use lib.IntN.{pos}
 use lib.ListN.{length}
 use Rattle.refusal.specs.Numbers.{size}
-use Rattle.files.specs.declared.Settings.{Settings}
+use Rattle.tracker.specs.declared.Settings.{Settings}
 use Rattle.files.specs.declared.Reading.{Reading}
 use Rattle.files.specs.declared.Reading.the-variants.{Refused, Read}
 use Rattle.files.specs.Number.{numberAt}
@@ -18,9 +19,9 @@ settingsOf bytes =
       height = numberAt bytes 2 2;
       threshold = numberAt bytes 4 2;
       needed = numberAt bytes 6 2;
-      cx = numberAt bytes 8 4;
-      cy = numberAt bytes 12 4;
-      focal = numberAt bytes 16 4;
+      cx = pos (numberAt bytes 8 4);
+      cy = pos (numberAt bytes 12 4);
+      focal = pos (numberAt bytes 16 4);
       tolerance = numberAt bytes 24 8;
     }
 

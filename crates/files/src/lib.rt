@@ -1,5 +1,6 @@
 // What the program's files hold: the settings and the frame's samples, high byte first.
 use refusal::Refusal;
+use tracker::Settings;
 ghost use mathlib.Core.Path.{_≡_};
 ghost use Prim.Native.Nat.{_+_, _^_, _≤_, _<_};
 ghost use lib.ListN.{length, take};
@@ -12,17 +13,6 @@ pub const MOST_SAMPLES: usize = 32000;
 
 // How many bytes the settings file has.
 pub const SETTINGS_SIZE: usize = 32;
-
-pub struct Settings {
-    pub width: usize,
-    pub height: usize,
-    pub threshold: usize,
-    pub needed: usize,
-    pub cx: u64,
-    pub cy: u64,
-    pub focal: u64,
-    pub tolerance: u64,
-}
 
 // What the settings file gives.
 pub enum Reading {
@@ -67,9 +57,9 @@ pub fn read_settings(bytes: &[u8]) -> Reading
         height: number(bytes, 2, 2) as usize,
         threshold: number(bytes, 4, 2) as usize,
         needed: number(bytes, 6, 2) as usize,
-        cx: number(bytes, 8, 4),
-        cy: number(bytes, 12, 4),
-        focal: number(bytes, 16, 4),
+        cx: number(bytes, 8, 4) as i64,
+        cy: number(bytes, 12, 4) as i64,
+        focal: number(bytes, 16, 4) as i64,
         tolerance: number(bytes, 24, 8),
     })
 }

@@ -108,3 +108,9 @@ trackedOf c = answered refusedWith (locatedOf (listed c .report) (c .catalogue) 
 -- "Refusals 1 to 12 leave all lent memory as found; in the chain 13 and 14 leave the ranking written."
 unfoldable pub roomAfter : Call → List ℕ
 roomAfter c = answered (λ r. c .room) (rankedRoom (listed c .report) (c .catalogue) (c .settings) (c .room)) (lowest (refusalsOf c))
+
+-- the search's own answer for the call's directions over a ranking, which the chain leaves in the room where it gives 13 or 14
+unfoldable pub namesOf : List ℕ → List ℕ → Settings → List ℕ → Identification
+namesOf samples bytes s words =
+    let report = listingOf samples (s .width) (s .height) (s .threshold) .report in
+    identificationOf (sightsOf report bytes s) bytes (s .needed) (s .tolerance) words

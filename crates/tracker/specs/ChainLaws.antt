@@ -40,53 +40,64 @@ use Rattle.tracker.specs.SightLaws.{directions-length, directions-within
 use Rattle.tracker.specs.Chain.{sightsOf, ourRanking, ourIdentification, rankedRoom}
 use Rattle.tracker.specs.Ready.{Ready, Settles}
 
-module _ (report : Report) (bytes : List ℕ) (s : Settings) (room₀ : List ℕ) (h : Ready report bytes s room₀) where
+-- ---- the directions of a report's stars
+
+module _ (report : Report) (bytes : List ℕ) (s : Settings) (few : report .count ≤ 8) (size : length (report .stars) ≡ 8) where
   abbrev sights : List ℤ
   sights = sightsOf report bytes s
 
   pub sights-length : length sights ≡ 3 * report .count
   unfolding sightsOf
-  sights-length = directions-length s (take (report .count) (report .stars)) ∙ ap (λ (n : ℕ). 3 * n) (length-take-le (report .count) (report .stars) (omega (arith, h .few, h .size)))
+  sights-length = directions-length s (take (report .count) (report .stars)) ∙ ap (λ (n : ℕ). 3 * n) (length-take-le (report .count) (report .stars) (omega arith))
 
   pub sights-count : directionsIn sights ≡ report .count
   sights-count = omega (arith, sights-length)
 
-  -- the array that the directions stand in
+  -- the array that they stand in
   pub sights-array : length (sights ++ replicate (24 - 3 * report .count) (pos 0)) ≡ 24
-  sights-array = omega (arith, length-append sights (replicate (24 - 3 * report .count) (pos 0)), length-replicate (24 - 3 * report .count) (pos 0), sights-length, h .few)
+  sights-array = omega (arith, length-append sights (replicate (24 - 3 * report .count) (pos 0)), length-replicate (24 - 3 * report .count) (pos 0), sights-length)
 
   pub sights-front : take (3 * report .count) (sights ++ replicate (24 - 3 * report .count) (pos 0)) ≡ sights
   sights-front = take-at sights _ (3 * report .count) sights-length
 
-  pub sights-within : AllWithin 1000000000 sights
-  unfolding sightsOf
-  sights-within = directions-within s (take (report .count) (report .stars))
-
   -- refusal 8 cannot arise
   pub sights-listed : Directions sights
-  sights-listed = record { threes = omega (arith, sights-length); most = omega (arith, sights-count, h .few); within = sights-within }
+  unfolding sightsOf
+  sights-listed = record { threes = omega (arith, sights-length); most = omega (arith, sights-count); within = directions-within s (take (report .count) (report .stars)) }
+
+-- ---- the steps of a call that is ready
+
+module _ (report : Report) (bytes : List ℕ) (s : Settings) (room₀ : List ℕ) (h : Ready report bytes s room₀) where
+  abbrev seen : List ℤ
+  seen = sightsOf report bytes s
+
+  seen-count : directionsIn seen ≡ report .count
+  seen-count = sights-count report bytes s (h .few) (h .size)
+
+  seen-listed : Directions seen
+  seen-listed = sights-listed report bytes s (h .few) (h .size)
 
   -- any ranking fits the room
   pub words-most : report .count * recordsIn bytes ≤ 4096
   words-most = mul-le-mul (h .few) (h .catalogue .size .most)
 
-  ranking-sound : Sound sights bytes (s .tolerance) (length room₀)
-  ranking-sound = record { catalogue = h .catalogue; list = sights-listed; near = h .near; room = rw sights-count (omega (arith, words-most, h .long)) }
+  ranking-sound : Sound seen bytes (s .tolerance) (length room₀)
+  ranking-sound = record { catalogue = h .catalogue; list = seen-listed; near = h .near; room = rw seen-count (omega (arith, words-most, h .long)) }
 
   -- the room after the call that ranks
-  pub room-ranked : room.roomAfter sights bytes (s .tolerance) room₀ ≡ rankedRoom report bytes s room₀
+  pub room-ranked : room.roomAfter seen bytes (s .tolerance) room₀ ≡ rankedRoom report bytes s room₀
   unfolding rankedRoom ourRanking rankOutcomeOf
-  room-ranked = room-written sights bytes (s .tolerance) room₀ (sound-accepted sights bytes (s .tolerance) (length room₀) ranking-sound) ∙ rw sights-count
+  room-ranked = room-written seen bytes (s .tolerance) room₀ (sound-accepted seen bytes (s .tolerance) (length room₀) ranking-sound) ∙ rw seen-count
 
   stars-count : triples (starsOf bytes) ≡ recordsIn bytes
   stars-count = omega (arith, valid-length bytes (h .catalogue))
 
-  our-ranks : Ranks (directionsIn sights) (recordsIn bytes) (ourRanking report bytes s)
+  our-ranks : Ranks (directionsIn seen) (recordsIn bytes) (ourRanking report bytes s)
   unfolding ourRanking
-  our-ranks = rw stars-count at (ranks sights (starsOf bytes) (s .tolerance))
+  our-ranks = rw stars-count at (ranks seen (starsOf bytes) (s .tolerance))
 
   pub our-length : length (ourRanking report bytes s) ≡ report .count * recordsIn bytes
-  our-length = our-ranks .sized ∙ rw sights-count
+  our-length = our-ranks .sized ∙ rw seen-count
 
   -- the ranking stands at its front
   pub room-front : take (report .count * recordsIn bytes) (rankedRoom report bytes s room₀) ≡ ourRanking report bytes s
@@ -98,10 +109,10 @@ module _ (report : Report) (bytes : List ℕ) (s : Settings) (room₀ : List ℕ
   room-long = omega (arith, length-append (ourRanking report bytes s) (drop (report .count * recordsIn bytes) room₀), our-length)
 
   -- refusal 11 cannot arise: our ranking names each star once a row
-  pub our-call : search.Call sights bytes (s .needed) (s .tolerance) (ourRanking report bytes s)
+  pub our-call : search.Call seen bytes (s .needed) (s .tolerance) (ourRanking report bytes s)
   our-call =
       record {
-        list = sights-listed;
+        list = seen-listed;
         catalogue = h .catalogue;
         least = h .least;
         most = h .most;
@@ -110,18 +121,18 @@ module _ (report : Report) (bytes : List ℕ) (s : Settings) (room₀ : List ℕ
         ranked = record { below = our-ranks .below; names = our-ranks .names; once = our-ranks .once };
       }
 
-  module _ (r : Identification) (i : Identified sights bytes (s .needed) (s .tolerance) (ourRanking report bytes s) r) where
+  module _ (r : Identification) (i : Identified seen bytes (s .needed) (s .tolerance) (ourRanking report bytes s) r) where
     pub identification-is : r ≡ ourIdentification report bytes s
     unfolding ourIdentification
-    identification-is = identified sights bytes (s .needed) (s .tolerance) (ourRanking report bytes s) r i
+    identification-is = identified seen bytes (s .needed) (s .tolerance) (ourRanking report bytes s) r i
 
-    pub our-search : Searched (setupFor sights bytes (s .needed) (s .tolerance)) (ourRanking report bytes s) sights (starsOf bytes) r
-    our-search = searched sights bytes (s .needed) (s .tolerance) (ourRanking report bytes s) our-call r i (omega (arith, sights-count, h .enough))
+    pub our-search : Searched (setupFor seen bytes (s .needed) (s .tolerance)) (ourRanking report bytes s) seen (starsOf bytes) r
+    our-search = searched seen bytes (s .needed) (s .tolerance) (ourRanking report bytes s) our-call r i (omega (arith, seen-count, h .enough))
 
-    pub our-settles : Settles sights bytes r
+    pub our-settles : Settles seen bytes r
     our-settles =
         record {
-          few = omega (arith, sights-count, h .few);
+          few = omega (arith, seen-count, h .few);
           catalogue = h .catalogue;
           two = λ e. omega (arith, our-search .first .fits (ap accepted e) .enough, h .least);
         }

@@ -2,7 +2,7 @@
 use mathlib.Core.Bool.{Bool, true, false, not, _&&_, and-eq-true-iff}
 use mathlib.Core.Path.{_≡_, refl, sym, ap, _∙_, subst}
 use mathlib.Core.List.{List, [], _∷_, _++_}
-use Prim.Native.Nat.{ℕ, _+_, _*_, _≤_, _<_, min, zero-le}
+use Prim.Native.Nat.{ℕ, zero, suc, _+_, _*_, _≤_, _<_, min, zero-le}
 use native.Mathlib.Decide.{decLt}
 use native.Mathlib.Omega.{arith}
 use borrow.Author.Tests.{not-false, leb-true, ltb-false}
@@ -16,7 +16,7 @@ use Rattle.refusal.specs.Laws.{Silent, accepted-silent, otherwise-accepted, AtM
 use Rattle.frame.specs.declared.Report.{Report}
 use Rattle.frame.specs.Input.{frameRows}
 use Rattle.frame.specs.InputLaws as input
-use Rattle.frame.specs.Stars.{nought, measuredOf, firstEight, reportOf, numberOf, isMeasured}
+use Rattle.frame.specs.Stars.{nought, nothing, measuredOf, firstEight, reportOf, numberOf, isMeasured}
 use Rattle.frame.specs.Calls.{listingOf}
 use Rattle.frame.specs.CallsLaws.{star-range, zeros-behind}
 use Rattle.catalogue.specs.Check as catalogue
@@ -30,6 +30,11 @@ use Rattle.tracker.specs.AdmitLaws.{refusals-joined}
 use Rattle.tracker.specs.Ready.{Ready}
 
 -- ---- a report's stars
+
+noughts : (n k : ℕ) → getD (replicate n nought) k nought ≡ nought
+noughts zero k = refl
+noughts (suc n) zero = refl
+noughts (suc n) (suc k) = noughts n k
 
 module _ (samples : List ℕ) (width height threshold : ℕ) (w : width ≤ 1024) (h : height ≤ 1024) where
   abbrev report : Report
@@ -56,6 +61,32 @@ module _ (samples : List ℕ) (width height threshold : ℕ) (w : width ≤ 1024
       by k (no l) (yes d) = subst InFrame (sym (zeros-behind samples width height threshold (height * width) k (omega arith) d)) nowhere-in
       by k (no l) (no d) = subst InFrame (sym (List·getD-eq-default (report .stars) nought (omega (arith, report-size)))) nowhere-in
 
+-- the same of what any call on a frame reports, refused ones too
+pub record Sighted (report : Report) : Type 0 where
+  pub few : report .count ≤ 8
+  pub placed : AllInFrame (report .stars)
+  pub size : length (report .stars) ≡ 8
+
+nothing-sighted : Sighted nothing
+nothing-sighted = record { few = omega arith; placed = record { at = by }; size = refl }
+  where
+    by : (k : ℕ) → InFrame (getD (nothing .stars) k nought)
+    by k = subst InFrame (sym (noughts 8 k)) (record { across = zero-le; down = zero-le })
+
+pub listing-sighted : (samples : List ℕ) (width height threshold : ℕ) → Sighted (listingOf samples width height threshold .report)
+unfolding listingOf
+listing-sighted samples width height threshold = by (lowest (frameRows samples width height threshold)) refl
+  where
+    by : (o : Outcome) → lowest (frameRows samples width height threshold) ≡ o → Sighted (answered (λ r. nothing) (reportOf samples width height threshold (height * width)) o)
+    by (Refused r) e = nothing-sighted
+    by Accepted e =
+        let v = input.accepted-valid samples width height threshold e in
+        record {
+          few = report-few samples width height threshold (v .wide .1) (v .high .1);
+          placed = report-placed samples width height threshold (v .wide .1) (v .high .1);
+          size = report-size samples width height threshold (v .wide .1) (v .high .1);
+        }
+
 -- ---- the demand
 
 demand-says : (needed tolerance : ℕ) → demandOk needed tolerance ≡ true → (3 ≤ needed) × (needed ≤ 8) × (tolerance ≤ 10000000000000000)
@@ -74,7 +105,6 @@ demand-rows s words count e =
 -- ---- the call
 
 pub ready : (c : Call) → lowest (refusalsOf c) ≡ Accepted → Ready (listed c .report) (c .catalogue) (c .settings) (c .room)
-unfolding listingOf
 ready c e =
     let s = c .settings in
     let stars = lowest (catalogue.refusalsOf (c .catalogue)) in
@@ -84,12 +114,11 @@ ready c e =
     let k = otherwise-accepted stars demand (b .1) in
     let d = demand-rows s (length (c .room)) (listed c .report .count) (k .1) in
     let q = demand-says (s .needed) (s .tolerance) (d .0) in
-    let v = input.accepted-valid (c .samples) (s .width) (s .height) (s .threshold) (a .0) in
-    let r : listed c .report ≡ reportOf (c .samples) (s .width) (s .height) (s .threshold) (s .height * s .width) = rw (a .0) in
+    let v = listing-sighted (c .samples) (s .width) (s .height) (s .threshold) in
     record {
-      few = rw r (report-few (c .samples) (s .width) (s .height) (s .threshold) (v .wide .1) (v .high .1));
-      placed = rw r (report-placed (c .samples) (s .width) (s .height) (s .threshold) (v .wide .1) (v .high .1));
-      size = rw r (report-size (c .samples) (s .width) (s .height) (s .threshold) (v .wide .1) (v .high .1));
+      few = v .few;
+      placed = v .placed;
+      size = v .size;
       catalogue = accepted-valid (c .catalogue) (k .0);
       least = q .0;
       most = q .1;

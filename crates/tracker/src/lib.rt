@@ -1,17 +1,18 @@
 // The whole chain as one call: a frame, a catalogue and settings in, the stars' names and the attitude out.
 mod admit;
-mod sight;
-mod orient;
 mod locate;
+mod orient;
+mod sight;
 
 use attitude::Matrix;
 use centroid::Centroid;
 use frame::Report;
 use refusal::Outcome;
 use refusal::Refusal;
+use search::Identification;
 use vectors::Vec3;
 ghost use mathlib.Core.Path.{_≡_};
-ghost use Rattle.tracker.specs.Chain.{refusedWith, call, trackedOf, roomAfter};
+ghost use Rattle.tracker.specs.Chain.{refusedWith, call, trackedOf, roomAfter, namesOf};
 ghost use Rattle.tracker.specs.Ready.{Tracks};
 
 // The camera's settings: the frame's size and threshold, the centre and the focal length in 1/256 pixel, how many directions need a star, and how
@@ -82,4 +83,29 @@ pub fn track(samples: &[u16], catalogue: &[u8], settings: Settings, room: &mut [
         Outcome::Refused(r) => refused(r),
         Outcome::Accepted => locate::located(report, catalogue, settings, room),
     }
+}
+
+// What the search alone finds for the frame's directions over a ranking. After 13 and 14 the ranking stands in the room, so a listing can show the
+// stars that a refused call had found.
+pub fn names(
+    samples: &[u16],
+    catalogue: &[u8],
+    settings: Settings,
+    ranking: &[u16],
+) -> Identification
+    ensures { λ r. ⌜ r ≡ namesOf (now (samples .entry)) (now (catalogue .entry)) settings (now (ranking .entry)) ⌝ }
+{
+    let listing = frame::list(samples, settings.width, settings.height, settings.threshold);
+    let report = listing.report;
+    let stars = report.stars;
+    let count = report.count;
+    let numbers = sight::directions_of(stars, count, settings);
+    let end = 3 * count;
+    search::search(
+        &numbers[..end],
+        catalogue,
+        settings.needed,
+        settings.tolerance,
+        ranking,
+    )
 }

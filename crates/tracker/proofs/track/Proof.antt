@@ -121,10 +121,13 @@ returns-2 c =
     let t = l .before .before in
     let o = t .before .before in
     let w = whole o in
-    let e = l .located .ensures in
-    (e .0 ∙ ap (λ (r : Report). locatedOf r (w .catalogue) (w .settings)) (report-is o) ∙ sym (accepted-tracked w (accepted t)),
-    (e .1 .0 ∙ ap (λ (r : Report). rankedRoom r (w .catalogue) (w .settings) (w .room)) (report-is o) ∙ sym (accepted-room w (accepted t)),
-    subst (λ (r : Report). Names r (w .catalogue) (w .settings) (l .located .result)) (report-is o) (e .1 .1)))
+    let e = l .located .ensures in (
+      e .0 ∙ ap (λ (r : Report). locatedOf r (w .catalogue) (w .settings)) (report-is o) ∙ sym (accepted-tracked w (accepted t)),
+      (
+        e .1 .0 ∙ ap (λ (r : Report). rankedRoom r (w .catalogue) (w .settings) (w .room)) (report-is o) ∙ sym (accepted-room w (accepted t)),
+        subst (λ (r : Report). Names r (w .catalogue) (w .settings) (l .located .result)) (report-is o) (e .1 .1),
+      ),
+    )
 
 pub track-spec : {M : Type 1} → statement M
 track-spec = tie.close (tie.spec list-requires outcome-requires enum-known-outcome refused-requires enum-told located-requires returns same-length returns-2)

@@ -26,12 +26,12 @@ start d = d .before .before .before .before
 
 array : (d : tie.After-directions-of) → length (d .directions-of .result) ≡ 24
 unfolding sightsOf
-array d = ap length (d .directions-of .ensures) ∙ laws.sights-array _ _ _ _ (start d .pre)
+array d = ap length (d .directions-of .ensures) ∙ laws.sights-array (start d .args .report) (start d .args .bytes .now) (start d .args .settings) (start d .pre .few) (start d .pre .size)
 
 -- the part of the array that is lent is the directions
 front : (d : tie.After-directions-of) → take (3 * start d .args .report .count) (d .directions-of .result) ≡ sightsOf (start d .args .report) (start d .args .bytes .now) (start d .args .settings)
 unfolding sightsOf
-front d = ap (take (3 * start d .args .report .count)) (d .directions-of .ensures) ∙ laws.sights-front _ _ _ _ (start d .pre)
+front d = ap (take (3 * start d .args .report .count)) (d .directions-of .ensures) ∙ laws.sights-front (start d .args .report) (start d .args .bytes .now) (start d .args .settings) (start d .pre .few) (start d .pre .size)
 
 part : (d : tie.After-directions-of) → 3 * start d .args .report .count ≡ length (take (3 * start d .args .report .count) (d .directions-of .result))
 part d = sym (length-take-le _ _ (omega (arith, array d, start d .pre .few)))
@@ -131,13 +131,16 @@ returns c =
     let k = ranked f in
     let s = begin k in
     let e = c .settle .ensures ∙ ap (λ (ds : List ℤ). settledOf (s .args .report) ds (s .args .bytes .now) (f .search .result)) (front (records k .before)) in
-    let sought = laws.our-search _ _ _ _ (s .pre) (f .search .result) (found f) in
-    (e ∙ ap (settledOf (s .args .report) (sightsOf (s .args .report) (s .args .bytes .now) (s .args .settings)) (s .args .bytes .now)) (laws.identification-is _ _ _ _ (s .pre) (f .search .result) (found f)),
-    (room-is k,
-    record {
-      first = settled-named _ _ _ (f .search .result) (c .settle .result) e _ _ (sought .first);
-      none = settled-none _ _ _ (f .search .result) (c .settle .result) e _ _ (sought .first);
-    }))
+    let sought = laws.our-search _ _ _ _ (s .pre) (f .search .result) (found f) in (
+      e ∙ ap (settledOf (s .args .report) (sightsOf (s .args .report) (s .args .bytes .now) (s .args .settings)) (s .args .bytes .now)) (laws.identification-is _ _ _ _ (s .pre) (f .search .result) (found f)),
+      (
+        room-is k,
+        record {
+          first = settled-named _ _ _ (f .search .result) (c .settle .result) e _ _ (sought .first);
+          none = settled-none _ _ _ (f .search .result) (c .settle .result) e _ _ (sought .first);
+        },
+      ),
+    )
 
 pub located-spec : {M : Type 1} → statement M
 located-spec =
