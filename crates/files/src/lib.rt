@@ -90,7 +90,7 @@ pub fn read_samples(bytes: &[u8], width: usize, height: usize, room: &mut [u16])
     requires { ⌜ length (now room) ≡ 32000 ⌝ }
     ensures { λ r. ⌜ r ≡ sampleCount (length (now (bytes .entry))) width height ⌝ }
     ensures { λ r. ⌜ take r (now (room .exit)) ≡ samplesOf (now (bytes .entry)) r ⌝ }
-    ensures { λ _. ⌜ length (now (room .exit)) ≡ 32000 ⌝ }
+    ensures { λ r. ⌜ (r ≤ 32000) × (length (now (room .exit)) ≡ 32000) ⌝ }
 {
     let count = sample_count(bytes.len(), width, height);
     let mut i: usize = 0;

@@ -92,9 +92,7 @@ fn run(settings: Settings) {
     let count = files::read_samples(&bytes[..n], settings.width, settings.height, &mut samples);
     let mut catalogue = [0u8; CATALOGUE_ROOM];
     let m = read(b"catalogue.bin", &mut catalogue);
-    if count <= 32000 {
-        answer(&samples[..count], &catalogue[..m], settings);
-    }
+    answer(&samples[..count], &catalogue[..m], settings);
 }
 
 fn main() {

@@ -68,7 +68,7 @@ returns : tie.Need-returns Inv-loop μ-loop
 returns c =
     let l = c .before .loop in
     let e : l .i ≡ c .before .before .sample-count .result = omega arith in
-    (c .before .before .sample-count .ensures, (rw (← e) (l .inv .4), l .inv .3))
+    (c .before .before .sample-count .ensures, (rw (← e) (l .inv .4), (l .inv .2, l .inv .3)))
 
 pub read-samples-spec : {M : Type 1} → statement M
 read-samples-spec =
