@@ -1,6 +1,6 @@
 -- Which sample `firstOver` names, and that a call is accepted exactly when its inputs are as document 01 has them. Assumes nothing.
 use mathlib.Core.Bool.{Bool, true, false, cond, not, _&&_, _||_}
-use mathlib.Core.Path.{_≡_, refl, _∙_}
+use mathlib.Core.Path.{_≡_, refl, ap, _∙_}
 use mathlib.Core.List.{List, [], _∷_, _++_}
 use Prim.Native.Nat.{ℕ, zero, suc, _+_, _*_, _≤_, _<_}
 use native.Mathlib.Nat.{mul-comm, not-suc-le-zero}
@@ -11,9 +11,10 @@ use lib.Seq.{drop-cons}
 use lib.Dec.{ltb, leb}
 use borrow.Author.Tests.{lt-ltb, le-ltb, ltb-true, ltb-false, leb-true, leb-false, le-leb, eqb-true, eq-eqb, not-false}
 use Rattle.refusal.specs.Numbers as numbers
-use Rattle.refusal.specs.Table.{Row, row, refusalOf, lowest}
-use Rattle.refusal.specs.Laws.{Silent, accepted-silent, lowest-here, lowest-next}
+use Rattle.refusal.specs.Table.{row, refusalOf, lowest, otherwise}
+use Rattle.refusal.specs.Laws.{Silent, accepted-silent, lowest-here, lowest-next, lowest-append}
 use Rattle.refusal.specs.declared.Refusal.{Refusal}
+use Rattle.refusal.specs.declared.Outcome.{Outcome}
 use Rattle.refusal.specs.declared.Outcome.the-variants.{Accepted, Refused}
 use Rattle.frame.specs.Input.{within, sizeOut, lengthOut, thresholdOut, firstOver, sampleOut, pixelOut, frameRows, pixelRows}
 
@@ -148,37 +149,24 @@ module _ (samples : List ℕ) (width height threshold : ℕ) where
       let a = neither (leb height r) (leb width c) (s .1 .1 .1 .1 .0) in
       (valid (s .0) (s .1 .0) (s .1 .1 .0) (s .1 .1 .1 .0), leb-false height r (a .0), leb-false width c (a .1))
 
--- ---- rows of two lists, one after the other
-
-pub lowest-first : (xs ys : List Row) (r : Refusal) → lowest xs ≡ Refused r → lowest (xs ++ ys) ≡ Refused r
-unfolding lowest
-lowest-first [] ys r e = let z : _≡_ {A = ℕ} 0 1 = cc in absurd (omega arith)
-lowest-first (x ∷ xs) ys r e = go (x .applies) (lowest-first xs ys r) e
-  where
-    go : (b : Bool) → (lowest xs ≡ Refused r → lowest (xs ++ ys) ≡ Refused r) → cond b (refusalOf (x .number) (x .place)) (lowest xs) ≡ Refused r
-        → cond b (refusalOf (x .number) (x .place)) (lowest (xs ++ ys)) ≡ Refused r
-    go true f e = e
-    go false f e = f e
-
-pub lowest-then : (xs ys : List Row) → lowest xs ≡ Accepted → lowest (xs ++ ys) ≡ lowest ys
-unfolding lowest
-lowest-then [] ys e = refl
-lowest-then (x ∷ xs) ys e = go (x .applies) (lowest-then xs ys) e
-  where
-    go : (b : Bool) → (lowest xs ≡ Accepted → lowest (xs ++ ys) ≡ lowest ys) → cond b (refusalOf (x .number) (x .place)) (lowest xs) ≡ Accepted
-        → cond b (refusalOf (x .number) (x .place)) (lowest (xs ++ ys)) ≡ lowest ys
-    go true f e = let z : _≡_ {A = ℕ} 0 1 = cc in absurd (omega arith)
-    go false f e = f e
+-- ---- the pixel's row behind the frame's
 
 module _ (samples : List ℕ) (width height threshold r c : ℕ) where
+  -- the frame's refusal, or the pixel's
+  pixel-joined : {o : Outcome} → lowest (frameRows samples width height threshold) ≡ o
+      → lowest (pixelRows samples width height threshold r c) ≡ otherwise o (lowest (row (pixelOut width height r c) numbers.pixel ∷ []))
+  pixel-joined e =
+      lowest-append (frameRows samples width height threshold) (row (pixelOut width height r c) numbers.pixel ∷ [])
+      ∙ ap (λ (o : Outcome). otherwise o (lowest (row (pixelOut width height r c) numbers.pixel ∷ []))) e
+
   pub pixel-refused : (f : Refusal) → lowest (frameRows samples width height threshold) ≡ Refused f → lowest (pixelRows samples width height threshold r c) ≡ Refused f
-  pixel-refused f e = lowest-first (frameRows samples width height threshold) _ f e
+  pixel-refused f e = pixel-joined e
 
   pub pixel-outside : lowest (frameRows samples width height threshold) ≡ Accepted → pixelOut width height r c ≡ true
       → lowest (pixelRows samples width height threshold r c) ≡ refusalOf numbers.pixel 0
-  pixel-outside e t = lowest-then (frameRows samples width height threshold) _ e ∙ lowest-here (row (pixelOut width height r c) numbers.pixel) [] t
+  pixel-outside e t = pixel-joined e ∙ lowest-here (row (pixelOut width height r c) numbers.pixel) [] t
 
   pub pixel-inside : lowest (frameRows samples width height threshold) ≡ Accepted → pixelOut width height r c ≡ false
       → lowest (pixelRows samples width height threshold r c) ≡ Accepted
   unfolding lowest
-  pixel-inside e t = lowest-then (frameRows samples width height threshold) (row (pixelOut width height r c) numbers.pixel ∷ []) e ∙ lowest-next (row (pixelOut width height r c) numbers.pixel) [] t
+  pixel-inside e t = pixel-joined e ∙ lowest-next (row (pixelOut width height r c) numbers.pixel) [] t

@@ -1,15 +1,15 @@
 -- The ranking's refusals one row at a time, as the code meets them. Assumes nothing.
-use mathlib.Core.Bool.{Bool, true, false, cond, not}
-use mathlib.Core.Path.{_≡_, refl, ap, _∙_}
-use mathlib.Core.List.{List, [], _∷_, _++_}
+use mathlib.Core.Bool.{true, false, not}
+use mathlib.Core.Path.{_≡_, ap, _∙_}
+use mathlib.Core.List.{List}
 use Prim.Native.Nat.{ℕ, _*_, _≤_, _<_}
 use borrow.Author.Tests.{lt-ltb, le-ltb, le-leb, lt-leb}
 use lib.IntN.{ℤ}
 use Rattle.refusal.specs.declared.Outcome.{Outcome}
 use Rattle.refusal.specs.declared.Outcome.the-variants.{Accepted, Refused}
 use Rattle.refusal.specs.Numbers as number
-use Rattle.refusal.specs.Table.{Row, refusalOf, lowest, answered}
-use Rattle.refusal.specs.Laws.{lowest-here, lowest-next, silent-accepted, Silent}
+use Rattle.refusal.specs.Table.{refusalOf, lowest, answered}
+use Rattle.refusal.specs.Laws.{lowest-here, lowest-next, lowest-append, silent-accepted, Silent}
 use Rattle.direction.specs.List.{listOk}
 use Rattle.direction.specs.ListLaws.{directionsIn}
 use Rattle.catalogue.specs.Format.{recordsIn}
@@ -35,21 +35,10 @@ module _ (directions : List ℤ) (stars tolerance words : ℕ) where
       unfolding rowsBeside Silent
       none-refused h = silent-accepted _ (ap not e, (ap not (le-leb _ _ t), (le-ltb _ _ h, tt)))
 
--- rows behind others are met where none of those applies
-lowest-joined : (xs ys : List Row) → lowest (xs ++ ys) ≡ answered Refused (lowest ys) (lowest xs)
-unfolding lowest
-lowest-joined [] ys = refl
-lowest-joined (x ∷ xs) ys = by (x .applies) (lowest-joined xs ys)
-  where
-    by : (b : Bool) → lowest (xs ++ ys) ≡ answered Refused (lowest ys) (lowest xs)
-        → cond b (refusalOf (x .number) (x .place)) (lowest (xs ++ ys)) ≡ answered Refused (lowest ys) (cond b (refusalOf (x .number) (x .place)) (lowest xs))
-    by true e = refl
-    by false e = e
-
 -- the catalogue's outcome first
 pub outcome-joined : (directions : List ℤ) (bytes : List ℕ) (tolerance words : ℕ) {o : Outcome} → lowest (catalogue.refusalsOf bytes) ≡ o
     → lowest (refusalsOf directions bytes tolerance words) ≡ answered Refused (lowest (rowsBeside directions (recordsIn bytes) tolerance words)) o
 unfolding refusalsOf
 outcome-joined directions bytes tolerance words e =
-    lowest-joined (catalogue.refusalsOf bytes) (rowsBeside directions (recordsIn bytes) tolerance words)
+    lowest-append (catalogue.refusalsOf bytes) (rowsBeside directions (recordsIn bytes) tolerance words)
     ∙ ap (answered Refused (lowest (rowsBeside directions (recordsIn bytes) tolerance words))) e

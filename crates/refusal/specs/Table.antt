@@ -35,5 +35,4 @@ answered f a (Refused r) = f r
 
 -- the first of two outcomes that is a refusal
 abbrev pub otherwise : Outcome → Outcome → Outcome
-otherwise Accepted b = b
-otherwise (Refused r) b = Refused r
+otherwise a b = answered Refused b a

@@ -1,7 +1,7 @@
 -- What it takes for none of the refusals 6 to 12 to apply. Assumes nothing.
 use mathlib.Core.Path.{_≡_, refl, sym, _∙_, ap}
-use mathlib.Core.Bool.{Bool, true, false, cond}
-use mathlib.Core.List.{List, [], _∷_, _++_}
+use mathlib.Core.Bool.{true, false}
+use mathlib.Core.List.{List}
 use Prim.Native.Nat.{ℕ, _≤_, _<_}
 use native.Mathlib.Omega.{arith}
 use lib.IntN.{ℤ}
@@ -11,7 +11,7 @@ use Rattle.refusal.specs.declared.Outcome.{Outcome}
 use Rattle.refusal.specs.declared.Outcome.the-variants.{Accepted, Refused}
 use Rattle.refusal.specs.Numbers as number
 use Rattle.refusal.specs.Table.{Row, refusalOf, lowest, answered}
-use Rattle.refusal.specs.Laws.{Silent, accepted-silent}
+use Rattle.refusal.specs.Laws.{Silent, accepted-silent, lowest-append}
 use Rattle.assignment.specs.Order.{Ranked}
 use Rattle.assignment.proofs.Tests as tests
 use Rattle.direction.specs.List.{listOk}
@@ -23,16 +23,6 @@ use Rattle.search.specs.declared.Judgement.the-variants.{Good, Bad}
 use Rattle.search.specs.Once.{rankingOf, lentOf}
 use Rattle.search.specs.Refusals.{demandOk, isBad, rowsBeside, refusalsOf}
 use Rattle.search.proofs.Once.{good-ranked}
-
--- the rows of two lists: the first list's refusal, or the second's
-pub lowest-joined : (xs ys : List Row) → lowest (xs ++ ys) ≡ answered Refused (lowest ys) (lowest xs)
-unfolding lowest
-lowest-joined [] ys = refl
-lowest-joined (x ∷ xs) ys = by (x .applies) (lowest-joined xs ys)
-  where
-    by : (b : Bool) → lowest (xs ++ ys) ≡ answered Refused (lowest ys) (lowest xs) → cond b (refusalOf (x .number) (x .place)) (lowest (xs ++ ys)) ≡ answered Refused (lowest ys) (cond b (refusalOf (x .number) (x .place)) (lowest xs))
-    by true h = refl
-    by false h = h
 
 good-of : (j : Judgement) → isBad j ≡ false → j ≡ Good
 good-of Good e = refl
@@ -84,16 +74,16 @@ module _ (directions : List ℤ) (stars needed tolerance : ℕ) (words : List �
 module _ (directions : List ℤ) (bytes : List ℕ) (needed tolerance : ℕ) (words : List ℕ) where
   pub catalogue-refused : (r : Refusal) → lowest (catalogue.refusalsOf bytes) ≡ Refused r → lowest (refusalsOf directions bytes needed tolerance words) ≡ Refused r
   unfolding refusalsOf
-  catalogue-refused r e = lowest-joined (catalogue.refusalsOf bytes) _ ∙ ap (answered Refused (lowest (rowsBeside directions (recordsIn bytes) needed tolerance words))) e
+  catalogue-refused r e = lowest-append (catalogue.refusalsOf bytes) _ ∙ ap (answered Refused (lowest (rowsBeside directions (recordsIn bytes) needed tolerance words))) e
 
   pub catalogue-valid : lowest (catalogue.refusalsOf bytes) ≡ Accepted → lowest (refusalsOf directions bytes needed tolerance words) ≡ lowest (rowsBeside directions (recordsIn bytes) needed tolerance words)
   unfolding refusalsOf
-  catalogue-valid e = lowest-joined (catalogue.refusalsOf bytes) _ ∙ ap (answered Refused (lowest (rowsBeside directions (recordsIn bytes) needed tolerance words))) e
+  catalogue-valid e = lowest-append (catalogue.refusalsOf bytes) _ ∙ ap (answered Refused (lowest (rowsBeside directions (recordsIn bytes) needed tolerance words))) e
 
   -- none of 6 to 12 applies: neither the catalogue's nor the rest
   pub all-accepted : lowest (refusalsOf directions bytes needed tolerance words) ≡ Accepted → (lowest (catalogue.refusalsOf bytes) ≡ Accepted) × Asked directions (recordsIn bytes) needed tolerance words
   unfolding refusalsOf
-  all-accepted e = by (lowest (catalogue.refusalsOf bytes)) refl (sym (lowest-joined (catalogue.refusalsOf bytes) rest) ∙ e)
+  all-accepted e = by (lowest (catalogue.refusalsOf bytes)) refl (sym (lowest-append (catalogue.refusalsOf bytes) rest) ∙ e)
     where
       rest : List Row
       rest = rowsBeside directions (recordsIn bytes) needed tolerance words

@@ -10,23 +10,15 @@ use lib.Seq.{length-take-le}
 use Rattle.refusal.specs.declared.Outcome.the-variants.{Accepted}
 use Rattle.refusal.specs.Table.{lowest}
 use Rattle.catalogue.specs.Format.{recordsIn}
-use Rattle.catalogue.specs.Stars.{starsOf, padded}
+use Rattle.catalogue.specs.Stars.{starsOf}
 use Rattle.catalogue.specs.Valid.{Valid}
-use Rattle.catalogue.specs.ValidStars.{padded-length, valid-front}
+use Rattle.catalogue.specs.Lent.{lent-within, lent-stars}
 use Rattle.votes.specs.Votes.{triples, Listed}
 use Rattle.ranking.specs.Ranking.{rankingOf}
 use Rattle.ranking.specs.Room.{rankOutcomeOf}
 use Rattle.ranking.specs.RoomLaws.{Sound, accepted-sound, stars-counted, stars-listed, directions-listed, room-kept, room-written}
 use Rattle.ranking.proofs.rank.Statement.{statement}
 use Rattle.ranking.proofs.rank.Tie as tie
-
--- the part of the array that is lent holds the stars
-module _ (bytes : List ℕ) (xs : List ℤ) (n : ℕ) (e : xs ≡ padded (starsOf bytes)) (q : n ≡ recordsIn bytes) (v : Valid bytes) where
-  within : 3 * n ≤ length xs
-  within = omega (arith, ap length e, padded-length bytes, v .size .most)
-
-  front : take (3 * n) xs ≡ starsOf bytes
-  front = rw (e, q) (valid-front bytes v)
 
 abbrev start : tie.After-enum-told → tie.Start
 start c = c .before .before .before .before .before
@@ -58,15 +50,15 @@ mul-end : tie.Need-mul-end
 mul-end c = search needs
 
 array-share-prefix-numbers : tie.Need-array-share-prefix-numbers
-array-share-prefix-numbers c = within _ _ _ (c .before .stars .ensures) (c .records .ensures) (sound (c .before .before) .catalogue)
+array-share-prefix-numbers c = lent-within _ _ _ (c .before .stars .ensures) (c .records .ensures) (sound (c .before .before) .catalogue)
 
 -- the slice that is handed on
 lent : (c : tie.After-numbers) → take (3 * c .before .records .result) (c .before .before .stars .result) ≡ starsOf (start (c .before .before .before) .args .catalogue .now)
-lent c = front _ _ _ (c .before .before .stars .ensures) (c .before .records .ensures) (sound (c .before .before .before) .catalogue)
+lent c = lent-stars _ _ _ (c .before .before .stars .ensures) (c .before .records .ensures) (sound (c .before .before .before) .catalogue)
 
 slice-aggregate-write-ranking : tie.Need-slice-aggregate-write-ranking
 slice-aggregate-write-ranking c =
-    sym (length-take-le _ _ (within _ _ _ (c .before .before .stars .ensures) (c .before .records .ensures) (sound (c .before .before .before) .catalogue)))
+    sym (length-take-le _ _ (lent-within _ _ _ (c .before .before .stars .ensures) (c .before .records .ensures) (sound (c .before .before .before) .catalogue)))
 
 -- directions x stars words, as the stars are counted
 words : (c : tie.After-enum-told) → let a = start c .args in triples (a .directions .now) * triples (starsOf (a .catalogue .now)) ≡ triples (a .directions .now) * recordsIn (a .catalogue .now)

@@ -10,23 +10,15 @@ use lib.Seq.{length-take-le}
 use Rattle.refusal.specs.declared.Outcome.the-variants.{Accepted}
 use Rattle.refusal.specs.Table.{lowest}
 use Rattle.catalogue.specs.Format.{recordsIn}
-use Rattle.catalogue.specs.Stars.{starsOf, padded}
+use Rattle.catalogue.specs.Stars.{starsOf}
 use Rattle.catalogue.specs.Valid.{Valid}
-use Rattle.catalogue.specs.ValidStars.{padded-length, valid-front}
+use Rattle.catalogue.specs.Lent.{lent-within, lent-stars}
 use Rattle.search.specs.Fit.{setupOf, Input, FirstFit}
 use Rattle.search.specs.Refusals.{refusalsOf}
 use Rattle.search.specs.Identified.{Identified}
 use Rattle.search.proofs.Answers as answers
 use Rattle.search.proofs.search.Statement.{statement}
 use Rattle.search.proofs.search.Tie as tie
-
--- the part of the array that is lent holds the stars
-module _ (bytes : List ℕ) (xs : List ℤ) (n : ℕ) (e : xs ≡ padded (starsOf bytes)) (q : n ≡ recordsIn bytes) (v : Valid bytes) where
-  within : 3 * n ≤ length xs
-  within = omega (arith, ap length e, padded-length bytes, v .size .most)
-
-  front : take (3 * n) xs ≡ starsOf bytes
-  front = rw (e, q) (valid-front bytes v)
 
 abbrev start : tie.After-enum-told → tie.Start
 start c = c .before .before .before .before .before
@@ -56,14 +48,14 @@ mul-end : tie.Need-mul-end
 mul-end c = search needs
 
 array-share-prefix-numbers : tie.Need-array-share-prefix-numbers
-array-share-prefix-numbers c = within _ _ _ (c .before .stars .ensures) (c .records .ensures) (valid (c .before .before))
+array-share-prefix-numbers c = lent-within _ _ _ (c .before .stars .ensures) (c .records .ensures) (valid (c .before .before))
 
 -- the slice that is handed on
 lent : (c : tie.After-numbers) → take (3 * c .before .records .result) (c .before .before .stars .result) ≡ starsOf (start (c .before .before .before) .args .catalogue .now)
-lent c = front _ _ _ (c .before .before .stars .ensures) (c .before .records .ensures) (valid (c .before .before .before))
+lent c = lent-stars _ _ _ (c .before .before .stars .ensures) (c .before .records .ensures) (valid (c .before .before .before))
 
 slice-aggregate-first-fit : tie.Need-slice-aggregate-first-fit
-slice-aggregate-first-fit c = sym (length-take-le _ _ (within _ _ _ (c .before .before .stars .ensures) (c .before .records .ensures) (valid (c .before .before .before))))
+slice-aggregate-first-fit c = sym (length-take-le _ _ (lent-within _ _ _ (c .before .before .stars .ensures) (c .before .records .ensures) (valid (c .before .before .before))))
 
 first-fit-requires : tie.Need-first-fit-requires
 first-fit-requires c κs =
