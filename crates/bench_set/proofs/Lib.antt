@@ -1,0 +1,2 @@
+-- The statement over the table.
+pub mod Bench

@@ -1,0 +1,126 @@
+-- Document 01, "The bench set": cases A to O, one under the other, with the numbers that stand there. Where a case names only some numbers of a
+-- verdict the rest follow from the same rules, worked out by hand. Assumes nothing.
+use mathlib.Core.List.{List, [], _∷_, _++_}
+use Prim.Native.Nat.{ℕ}
+use lib.IntN.{ℤ, pos, negℤ}
+use Rattle.refusal.specs.declared.Outcome.the-variants.{Accepted}
+use Rattle.vectors.specs.declared.Vec3.{Vec3}
+use Rattle.verdict.specs.declared.Kind.{Kind}
+use Rattle.verdict.specs.declared.Kind.the-variants.{Beaten, Edge, Measured}
+use Rattle.direction.specs.declared.Direction.{Direction}
+use Rattle.direction.specs.declared.Direction.the-variants as toward
+use Rattle.attitude.specs.declared.Attitude.{Attitude}
+use Rattle.attitude.specs.declared.Attitude.the-variants as turned
+use Rattle.search.specs.declared.Identification.{Identification}
+use Rattle.search.specs.Identified.{refusedWith, padTo}
+use Rattle.bench_set.specs.Frames.{lit, evenly, frameOf}
+use Rattle.bench_set.specs.Case.{Case, pixel, others, direction, attitude, search}
+
+-- ---- answers, in document 01's numbers
+
+abbrev pub measured : ℕ → ℕ → ℕ → Kind
+measured x y brightness = Measured (record { x = x; y = y; brightness = brightness })
+
+abbrev pub minus : ℕ → ℤ
+minus n = negℤ (pos n)
+
+abbrev pub vec : ℤ → ℤ → ℤ → Vec3
+vec x y z = record { x = x; y = y; z = z }
+
+abbrev pub found : Vec3 → Direction
+found v = toward.Found v
+
+abbrev pub rows : Vec3 → Vec3 → Vec3 → Attitude
+rows a b c = turned.Found (record { row0 = a; row1 = b; row2 = c })
+
+abbrev pub unturned : ℕ → Attitude
+unturned number = turned.Refused (record { number = number; place = 0 })
+
+-- the stars of the directions; a word behind the last direction is 0
+abbrev pub stars : List ℕ → Identification
+stars words = record { outcome = Accepted; stars = padTo 8 words }
+
+abbrev pub unfound : ℕ → Identification
+unfound number = refusedWith (record { number = number; place = 0 })
+
+-- "none" is written as the number of stars, three here
+abbrev pub none : ℕ
+none = 3
+
+-- ---- the three axes, as directions and as the records 1, 2 and 3 of a catalogue
+
+abbrev pub axis0 : List ℤ
+axis0 = pos 1000000000 ∷ pos 0 ∷ pos 0 ∷ []
+
+abbrev pub axis1 : List ℤ
+axis1 = pos 0 ∷ pos 1000000000 ∷ pos 0 ∷ []
+
+abbrev pub axis2 : List ℤ
+axis2 = pos 0 ∷ pos 0 ∷ pos 1000000000 ∷ []
+
+-- 10^9 and 0 in four bytes, high byte first
+abbrev pub full : List ℕ
+full = 59 ∷ 154 ∷ 202 ∷ 0 ∷ []
+
+abbrev pub empty : List ℕ
+empty = 0 ∷ 0 ∷ 0 ∷ 0 ∷ []
+
+abbrev pub axes : List ℕ
+axes =
+    (0 ∷ 0 ∷ 0 ∷ 1 ∷ full ++ empty ++ empty)
+    ++ (0 ∷ 0 ∷ 0 ∷ 2 ∷ empty ++ full ++ empty)
+    ++ (0 ∷ 0 ∷ 0 ∷ 3 ∷ empty ++ empty ++ full)
+
+abbrev pub rising : List ℕ
+rising = 0 ∷ 1 ∷ 2 ∷ []
+
+abbrev pub falling : List ℕ
+falling = 2 ∷ 1 ∷ 0 ∷ []
+
+-- ---- the table
+
+unfoldable pub table : List Case
+table =
+    -- A
+    pixel (frameOf (lit 3 3 100 ∷ [])) 50 3 3 (measured 768 768 2400)
+    -- B
+    ∷ pixel (frameOf (lit 3 3 100 ∷ lit 3 4 100 ∷ [])) 50 3 3 (measured 896 768 4800)
+    ∷ pixel (frameOf (lit 3 3 100 ∷ lit 3 4 100 ∷ [])) 50 3 4 Beaten
+    -- C
+    ∷ pixel (frameOf (lit 3 3 100 ∷ lit 3 2 50 ∷ [])) 50 3 3 (measured 683 768 3600)
+    -- D
+    ∷ pixel (frameOf (lit 3 3 100 ∷ lit 0 0 24 ∷ [])) 50 3 3 (measured 768 768 2376)
+    -- E
+    ∷ pixel (frameOf (lit 3 2 100 ∷ [])) 50 3 2 Edge
+    -- F
+    ∷ pixel (evenly 4095) 4095 0 0 Edge
+    ∷ others (evenly 4095) 4095 0 0 Beaten
+    -- G: X = x - cx = 0
+    ∷ direction (pos 12288) (pos 0) (pos 16384) (pos 12288) (pos 0) (found (vec (pos 0) (pos 0) (pos 1000000000)))
+    -- H: X = -12,288
+    ∷ direction (pos 12288) (pos 0) (pos 16384) (pos 0) (pos 0) (found (vec (minus 600000000) (pos 0) (pos 800000000)))
+    -- I
+    ∷ attitude
+    (vec (pos 0) (pos 0) (pos 1000000000)) (vec (pos 1000000000) (pos 0) (pos 0))
+    (vec (pos 0) (pos 0) (pos 1000000000)) (vec (pos 1000000000) (pos 0) (pos 0))
+    (rows (vec (pos 1000000000) (pos 0) (pos 0)) (vec (pos 0) (pos 1000000000) (pos 0)) (vec (pos 0) (pos 0) (pos 1000000000)))
+    -- J
+    ∷ attitude
+    (vec (pos 0) (pos 0) (pos 1000000000)) (vec (pos 0) (pos 1000000000) (pos 0))
+    (vec (pos 0) (pos 0) (pos 1000000000)) (vec (pos 1000000000) (pos 0) (pos 0))
+    (rows (vec (pos 0) (minus 1000000000) (pos 0)) (vec (pos 1000000000) (pos 0) (pos 0)) (vec (pos 0) (pos 0) (pos 1000000000)))
+    -- K
+    ∷ attitude
+    (vec (pos 0) (pos 0) (pos 1000000000)) (vec (pos 0) (pos 0) (pos 1000000000))
+    (vec (pos 0) (pos 0) (pos 1000000000)) (vec (pos 1000000000) (pos 0) (pos 0))
+    (unturned 14)
+    -- L
+    ∷ search (axis0 ++ axis1 ++ axis2) axes 3 0 (rising ++ rising ++ rising) (stars (0 ∷ 1 ∷ 2 ∷ []))
+    -- M
+    ∷ search (axis0 ++ axis1 ++ axis2) axes 3 0 (falling ++ rising ++ rising) (stars (2 ∷ 0 ∷ 1 ∷ []))
+    -- N
+    ∷ search (axis0 ++ axis1) axes 3 0 (rising ++ rising) (unfound 12)
+    -- O
+    ∷ search ((pos 600000000 ∷ pos 800000000 ∷ pos 0 ∷ []) ++ axis0 ++ axis1 ++ axis2) axes 3 0 (rising ++ rising ++ rising ++ rising)
+    (stars (none ∷ 0 ∷ 1 ∷ 2 ∷ []))
+    ∷ []
