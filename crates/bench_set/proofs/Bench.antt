@@ -109,6 +109,11 @@ only {directions} {bytes} {needed} {tolerance} {words} e = (e, λ r h. identifie
 
 -- ---- the statement
 
+-- one case, and those below it
+infixr 20 _also_
+_also_ : {A B : Type 0} → A → B → A × B
+a also b = (a, b)
+
 pub bench : AllHold table
 unfolding table lowest judgementOf firstOver kindOf peakKind edge beaten beats earlier some-below
     centroidOf brightness shiftX shiftY sum-below sumℤ-below borderSum
@@ -117,50 +122,15 @@ unfolding table lowest judgementOf firstOver kindOf peakKind edge beaten beats e
     catalogue.refusalsOf catalogue.lengthOk catalogue.brokenOf recordOk directionOk identityRises componentOf identityOf wordAt signedOf starsOf starsTo
     firstFit run row assigned standing pairs agreement agreeing pairDot tripleAt
 bench =
-    -- A
-    (
-      refl,
-      -- B
-      (
-        refl,
-        (
-          refl,
-          -- C, D, E
-          (
-            refl,
-            (
-              refl,
-              (
-                refl,
-                -- F
-                (
-                  refl,
-                  (
-                    rest-beaten,
-                    -- G, H
-                    (
-                      direction-by (pos 12288) (pos 0) (pos 16384) (pos 12288) (pos 0) refl refl n-G,
-                      (
-                        direction-by (pos 12288) (pos 0) (pos 16384) (pos 0) (pos 0) refl refl n-H,
-                        -- I, J, K
-                        (
-                          case-I,
-                          (
-                            case-J,
-                            (
-                              case-K,
-                              -- L, M, N, O
-                              (only refl, (only refl, (only refl, (only refl, tt)))),
-                            ),
-                          ),
-                        ),
-                      ),
-                    ),
-                  ),
-                ),
-              ),
-            ),
-          ),
-        ),
-      ),
-    )
+    -- A, B, C, D, E
+    refl also refl also refl also refl also refl also refl
+    -- F
+    also refl also rest-beaten
+    -- G, H
+    also direction-by (pos 12288) (pos 0) (pos 16384) (pos 12288) (pos 0) refl refl n-G
+    also direction-by (pos 12288) (pos 0) (pos 16384) (pos 0) (pos 0) refl refl n-H
+    -- I, J, K
+    also case-I also case-J also case-K
+    -- L, M, N, O
+    also only refl also only refl also only refl also only refl
+    also tt
