@@ -35,7 +35,7 @@ fn signed(w: u32) -> i32
 }
 
 // The identity of record i.
-pub fn identity(bytes: &[u8], i: usize) -> u32
+pub(crate) fn identity(bytes: &[u8], i: usize) -> u32
     requires { ⌜ recordSize * i + recordSize ≤ length (now bytes) ⌝ }
     ensures { λ r. ⌜ r ≡ identityOf (now (bytes .entry)) i ⌝ }
 {
@@ -43,7 +43,7 @@ pub fn identity(bytes: &[u8], i: usize) -> u32
 }
 
 // Component 0, 1 or 2 of record i: x, y or z.
-pub fn component(bytes: &[u8], i: usize, axis: usize) -> i32
+pub(crate) fn component(bytes: &[u8], i: usize, axis: usize) -> i32
     requires { ⌜ (recordSize * i + recordSize ≤ length (now bytes)) × (axis < 3) ⌝ }
     ensures { λ r. ⌜ r ≡ componentOf (now (bytes .entry)) i axis ⌝ }
 {

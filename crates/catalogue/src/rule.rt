@@ -51,7 +51,7 @@ fn record_ok(bytes: &[u8], i: usize) -> bool
 }
 
 // The first record that breaks its rule, or the number of records where each keeps it.
-pub fn first_broken(bytes: &[u8]) -> usize
+pub(crate) fn first_broken(bytes: &[u8]) -> usize
     ensures { λ r. ⌜ r ≡ brokenOf (now (bytes .entry)) ⌝ }
 {
     let n = bytes.len() / RECORD_SIZE;

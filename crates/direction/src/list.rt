@@ -6,7 +6,7 @@ ghost use Rattle.direction.specs.List.{largest, allWithin};
 const LARGEST: u64 = 1000000000;
 
 // Whether each number lies within LARGEST of 0.
-pub fn all_within(v: &[i32]) -> bool
+pub(crate) fn all_within(v: &[i32]) -> bool
     ensures { λ r. ⌜ r ≡ allWithin largest (now (v .entry)) ⌝ }
 {
     let mut k = 0;

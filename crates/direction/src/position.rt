@@ -20,7 +20,7 @@ fn norm(x: i64, y: i64, focal: i64) -> u64
 }
 
 // The direction of the ray through the position.
-pub fn toward(x: i64, y: i64, focal: i64) -> Vec3
+pub(crate) fn toward(x: i64, y: i64, focal: i64) -> Vec3
     requires { ⌜ Within 523776 x ⌝ }
     requires { ⌜ Within 523776 y ⌝ }
     requires { ⌜ Within 4194304 focal ⌝ }

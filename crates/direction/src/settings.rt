@@ -13,21 +13,21 @@ fn between(low: i64, high: i64, v: i64) -> bool
 }
 
 // Whether v, in 1/256 pixel, lies on the largest frame.
-pub fn place_ok(v: i64) -> bool
+pub(crate) fn place_ok(v: i64) -> bool
     ensures { λ r. ⌜ r ≡ placeOk v ⌝ }
 {
     between(0, 261888, v)
 }
 
 // Whether a focal length, in 1/256 pixel, is in range.
-pub fn focal_ok(focal: i64) -> bool
+pub(crate) fn focal_ok(focal: i64) -> bool
     ensures { λ r. ⌜ r ≡ focalOk focal ⌝ }
 {
     between(16384, 4194304, focal)
 }
 
 // Whether a position lies on the largest frame.
-pub fn position_ok(x: i64, y: i64) -> bool
+pub(crate) fn position_ok(x: i64, y: i64) -> bool
     ensures { λ r. ⌜ r ≡ positionOk x y ⌝ }
 {
     if place_ok(x) {

@@ -31,7 +31,12 @@ fn first_over(samples: &[u16]) -> usize
 }
 
 // Width and height are tested before their product is formed, so it cannot overflow.
-pub fn frame_outcome(samples: &[u16], width: usize, height: usize, threshold: usize) -> Outcome
+pub(crate) fn frame_outcome(
+    samples: &[u16],
+    width: usize,
+    height: usize,
+    threshold: usize,
+) -> Outcome
     ensures { λ r. ⌜ r ≡ lowest (frameRows (now (samples .entry)) width height threshold) ⌝ }
 {
     if !is_within(width, 7, 1024) {
@@ -54,7 +59,7 @@ pub fn frame_outcome(samples: &[u16], width: usize, height: usize, threshold: us
 }
 
 // The same for a call that names a pixel.
-pub fn pixel_outcome(
+pub(crate) fn pixel_outcome(
     samples: &[u16],
     width: usize,
     height: usize,

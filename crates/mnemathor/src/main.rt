@@ -9,7 +9,9 @@ ghost use Rattle.io.specs.Counts.{Counts};
 
 // Each buffer has room for one byte, or one record, more than its file may have, so that a file that is too long is seen to be.
 const SETTINGS_ROOM: usize = 33;
+
 const FRAME_ROOM: usize = 64001;
+
 const CATALOGUE_ROOM: usize = 8208;
 
 // Reads a file into the buffer and answers how many bytes it put there. A missing file counts as empty.
@@ -31,7 +33,13 @@ fn no_names() -> [u16; 8] {
 }
 
 // The words that the search found before the attitude was refused.
-fn found(samples: &[u16], catalogue: &[u8], settings: Settings, room: &[u16], count: usize) -> [u16; 8] {
+fn found(
+    samples: &[u16],
+    catalogue: &[u8],
+    settings: Settings,
+    room: &[u16],
+    count: usize,
+) -> [u16; 8] {
     let records = catalogue::records(catalogue);
     if 8 < count {
         return no_names();
@@ -48,13 +56,7 @@ fn found(samples: &[u16], catalogue: &[u8], settings: Settings, room: &[u16], co
 }
 
 // The lines of a refused call. From 12 on the frame's list was accepted, and is shown before the refusal; 14 keeps the names.
-fn refused(
-    refusal: Refusal,
-    samples: &[u16],
-    catalogue: &[u8],
-    settings: Settings,
-    room: &[u16],
-) {
+fn refused(refusal: Refusal, samples: &[u16], catalogue: &[u8], settings: Settings, room: &[u16]) {
     if refusal.number < refusal::FEW {
         show::refusal(refusal);
         return;

@@ -23,7 +23,7 @@ fn write_row(directions: &[i32], stars: &[i32], tolerance: u64, i: usize, row: &
 }
 
 // The ranking of decoded stars. Each row has its own stretch of the room.
-pub fn write_ranking(directions: &[i32], stars: &[i32], tolerance: u64, room: &mut [u16])
+fn write_ranking(directions: &[i32], stars: &[i32], tolerance: u64, room: &mut [u16])
     requires { ⌜ Listed 8 (now directions) ⌝ }
     requires { ⌜ Listed 512 (now stars) ⌝ }
     requires { ⌜ triples (now directions) * triples (now stars) ≤ length (now room) ⌝ }

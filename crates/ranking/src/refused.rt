@@ -27,7 +27,7 @@ fn beside(directions: &[i32], stars: usize, tolerance: u64, words: usize) -> Out
 }
 
 // The lowest of 6 to 10 that applies.
-pub fn lowest(directions: &[i32], catalogue: &[u8], tolerance: u64, words: usize) -> Outcome
+pub(crate) fn lowest(directions: &[i32], catalogue: &[u8], tolerance: u64, words: usize) -> Outcome
     ensures { λ r. ⌜ r ≡ lowestOf (refusalsOf (now (directions .entry)) (now (catalogue .entry)) tolerance words) ⌝ }
 {
     let checked = catalogue::check(catalogue);

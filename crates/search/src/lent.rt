@@ -29,7 +29,7 @@ fn fresh_words(ranking: &[u16], base: usize, stars: usize) -> usize
 }
 
 // Good, or the first word of the whole ranking that is out of range or repeats an earlier one of its row.
-pub fn check(ranking: &[u16], dirs: usize, stars: usize) -> Judgement
+pub(crate) fn check(ranking: &[u16], dirs: usize, stars: usize) -> Judgement
     requires { ⌜ (dirs ≤ 8) × (stars ≤ 512) ⌝ }
     ensures { λ r. ⌜ r ≡ lentOf (now (ranking .entry)) dirs stars ⌝ }
 {

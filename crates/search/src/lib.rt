@@ -50,7 +50,7 @@ pub fn demand_ok(needed: usize, tolerance: u64) -> bool
 }
 
 // The first assignment that fits, or that none does. The stars stand in threes, as the directions do.
-pub fn first_fit(
+fn first_fit(
     ranking: &[u16],
     directions: &[i32],
     stars: &[i32],

@@ -9,7 +9,7 @@ ghost use Rattle.refusal.specs.Table.{lowest as lowestOf};
 ghost use Rattle.search.specs.Refusals.{demandOk, rowsBeside, refusalsOf};
 
 // Whether the needed count and the tolerance are in range.
-pub fn demand_ok(needed: usize, tolerance: u64) -> bool
+pub(crate) fn demand_ok(needed: usize, tolerance: u64) -> bool
     ensures { λ r. ⌜ r ≡ demandOk needed tolerance ⌝ }
 {
     if needed < 3 {
@@ -52,7 +52,7 @@ fn beside(
 }
 
 // The lowest of 6 to 12 that applies.
-pub fn lowest(
+pub(crate) fn lowest(
     directions: &[i32],
     catalogue: &[u8],
     needed: usize,

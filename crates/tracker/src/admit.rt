@@ -49,7 +49,7 @@ fn demand_outcome(settings: Settings, words: usize, count: usize) -> Outcome
 }
 
 // The frame's own outcome comes first.
-pub fn outcome(
+pub(crate) fn outcome(
     frame: Outcome,
     count: usize,
     bytes: &[u8],

@@ -38,7 +38,7 @@ fn settle(report: Report, directions: &[i32], bytes: &[u8], found: Identificatio
 }
 
 // Each step takes what the one before gave. The ranking stays in the room, whatever the search and the attitude come to.
-pub fn located(report: Report, bytes: &[u8], settings: Settings, room: &mut [u16]) -> Tracked
+pub(crate) fn located(report: Report, bytes: &[u8], settings: Settings, room: &mut [u16]) -> Tracked
     requires { ⌜ Ready report (now bytes) settings (now room) ⌝ }
     ensures { λ r. ⌜ r ≡ locatedOf report (now (bytes .entry)) settings ⌝ }
     ensures { λ r. ⌜ now (room .exit) ≡ rankedRoom report (now (bytes .entry)) settings (now (room .entry)) ⌝ }
