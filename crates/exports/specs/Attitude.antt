@@ -11,10 +11,14 @@ use Rattle.attitude.specs.declared.Attitude.{Attitude}
 use Rattle.attitude.specs.declared.Attitude.the-variants.{Refused, Found}
 use Rattle.attitude.specs.Attitude.{attitudeOf}
 use Rattle.exports.specs.Room.{handedOver}
-use Rattle.exports.specs.Numbers.{refusedNumbers, acceptedNumbers, vectorNumbers}
+use Rattle.exports.specs.Numbers.{refusedNumbers, acceptedNumbers, vectorNumbers, withVector}
 
 abbrev pub matrixNumbers : Matrix → List ℤ
 matrixNumbers m = vectorNumbers (m .row0) ++ (vectorNumbers (m .row1) ++ vectorNumbers (m .row2))
+
+-- the list with a matrix's numbers from a place on
+abbrev pub withMatrix : List ℤ → ℕ → Matrix → List ℤ
+withMatrix xs i m = withVector (withVector (withVector xs i (m .row0)) (i + 3) (m .row1)) (i + 6) (m .row2)
 
 abbrev pub attitudeNumbers : Attitude → List ℤ
 attitudeNumbers (Refused r) = refusedNumbers r

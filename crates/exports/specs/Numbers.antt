@@ -6,6 +6,8 @@ use lib.ListN.{set}
 use lib.Dec.{ltb}
 use lib.IntN.{ℤ, pos, negsuc}
 use Rattle.refusal.specs.declared.Refusal.{Refusal}
+use Rattle.refusal.specs.declared.Outcome.{Outcome}
+use Rattle.refusal.specs.declared.Outcome.the-variants.{Accepted, Refused}
 use Rattle.vectors.specs.declared.Vec3.{Vec3}
 use Rattle.exports.specs.Room.{padded}
 
@@ -19,6 +21,15 @@ refusedNumbers r = padded (signedOf (r .number) ∷ (signedOf (r .place) ∷ [])
 -- a call that is accepted, with the answer's own numbers
 abbrev pub acceptedNumbers : List ℤ → List ℤ
 acceptedNumbers xs = padded (pos 0 ∷ (pos 0 ∷ xs))
+
+-- the numbers of a call that is accepted, or those of its refusal
+abbrev pub outcomeNumbers : Outcome → List ℤ → List ℤ
+outcomeNumbers Accepted numbers = numbers
+outcomeNumbers (Refused r) numbers = refusedNumbers r
+
+-- a ranking hands over nothing more: the room is its answer
+abbrev pub rankingNumbers : Outcome → List ℤ
+rankingNumbers outcome = outcomeNumbers outcome (acceptedNumbers [])
 
 abbrev pub vectorNumbers : Vec3 → List ℤ
 vectorNumbers v = v .x ∷ (v .y ∷ (v .z ∷ []))

@@ -1,17 +1,15 @@
-// Answers as 64 signed numbers: the refusal's number and place, 0 and 0 where the call is accepted, then the answer's own numbers, then zeros.
-use attitude::Attitude;
+// An answer as 64 signed numbers: the refusal's number and place, 0 and 0 where the call is accepted, then the answer's own numbers, then zeros.
 use attitude::Matrix;
-use catalogue::Checked;
-use direction::Direction;
+use centroid::Centroid;
+use refusal::Outcome;
 use refusal::Refusal;
 use vectors::Vec3;
 ghost use mathlib.Core.Path.{_≡_};
 ghost use mathlib.Core.List.{[], _∷_};
 ghost use Prim.Native.Nat.{_≤_};
-ghost use Rattle.exports.specs.Numbers.{signedOf, refusedNumbers, acceptedNumbers, vectorNumbers, withVector};
-ghost use Rattle.exports.specs.Catalogue.{catalogueNumbers};
-ghost use Rattle.exports.specs.Direction.{directionNumbers};
-ghost use Rattle.exports.specs.Attitude.{matrixNumbers, attitudeNumbers};
+ghost use Rattle.exports.specs.Numbers.{signedOf, refusedNumbers, acceptedNumbers, outcomeNumbers, vectorNumbers, withVector};
+ghost use Rattle.exports.specs.Attitude.{matrixNumbers, withMatrix};
+ghost use Rattle.exports.specs.Stars.{withStar, withStars, nameAt, withNames};
 
 // The signed number that has the same 64 bits.
 pub fn signed(word: u64) -> i64
@@ -25,7 +23,7 @@ pub fn signed(word: u64) -> i64
 }
 
 // A refusal: its number and its place.
-fn of_refusal(refusal: Refusal) -> [i64; 64]
+pub fn of_refusal(refusal: Refusal) -> [i64; 64]
     ensures { λ r. ⌜ r ≡ refusedNumbers refusal ⌝ }
 {
     let mut flat = [0i64; 64];
@@ -34,7 +32,17 @@ fn of_refusal(refusal: Refusal) -> [i64; 64]
     flat
 }
 
-fn of_count(n: usize) -> [i64; 64]
+// The numbers of a call that is accepted, or those of its refusal.
+pub fn of_outcome(outcome: Outcome, accepted: [i64; 64]) -> [i64; 64]
+    ensures { λ r. ⌜ r ≡ outcomeNumbers outcome accepted ⌝ }
+{
+    match outcome {
+        Outcome::Accepted => accepted,
+        Outcome::Refused(refusal) => of_refusal(refusal),
+    }
+}
+
+pub fn of_count(n: usize) -> [i64; 64]
     ensures { λ r. ⌜ r ≡ acceptedNumbers (signedOf n ∷ []) ⌝ }
 {
     let mut flat = [0i64; 64];
@@ -42,17 +50,8 @@ fn of_count(n: usize) -> [i64; 64]
     flat
 }
 
-pub fn of_catalogue(checked: Checked) -> [i64; 64]
-    ensures { λ r. ⌜ r ≡ catalogueNumbers checked ⌝ }
-{
-    match checked {
-        Checked::Refused(refusal) => of_refusal(refusal),
-        Checked::Records(n) => of_count(n),
-    }
-}
-
 // A vector's numbers from a place on.
-fn put_vector(flat: [i64; 64], at: usize, v: Vec3) -> [i64; 64]
+pub fn put_vector(flat: [i64; 64], at: usize, v: Vec3) -> [i64; 64]
     requires { ⌜ at ≤ 61 ⌝ }
     ensures { λ r. ⌜ r ≡ withVector flat at v ⌝ }
 {
@@ -66,35 +65,87 @@ fn put_vector(flat: [i64; 64], at: usize, v: Vec3) -> [i64; 64]
     put
 }
 
-fn of_vector(v: Vec3) -> [i64; 64]
+pub fn of_vector(v: Vec3) -> [i64; 64]
     ensures { λ r. ⌜ r ≡ acceptedNumbers (vectorNumbers v) ⌝ }
 {
     put_vector([0i64; 64], 2, v)
 }
 
-pub fn of_direction(direction: Direction) -> [i64; 64]
-    ensures { λ r. ⌜ r ≡ directionNumbers direction ⌝ }
+// A matrix's numbers from a place on, row by row.
+pub fn put_matrix(flat: [i64; 64], at: usize, matrix: Matrix) -> [i64; 64]
+    requires { ⌜ at ≤ 55 ⌝ }
+    ensures { λ r. ⌜ r ≡ withMatrix flat at matrix ⌝ }
 {
-    match direction {
-        Direction::Refused(refusal) => of_refusal(refusal),
-        Direction::Found(v) => of_vector(v),
-    }
+    let first = put_vector(flat, at, matrix.row0);
+    let second = put_vector(first, at + 3, matrix.row1);
+    put_vector(second, at + 6, matrix.row2)
 }
 
-// A matrix, row by row.
-fn of_matrix(matrix: Matrix) -> [i64; 64]
+pub fn of_matrix(matrix: Matrix) -> [i64; 64]
     ensures { λ r. ⌜ r ≡ acceptedNumbers (matrixNumbers matrix) ⌝ }
 {
-    let first = put_vector([0i64; 64], 2, matrix.row0);
-    let second = put_vector(first, 5, matrix.row1);
-    put_vector(second, 8, matrix.row2)
+    put_matrix([0i64; 64], 2, matrix)
 }
 
-pub fn of_attitude(attitude: Attitude) -> [i64; 64]
-    ensures { λ r. ⌜ r ≡ attitudeNumbers attitude ⌝ }
+// A star's position and brightness from a place on.
+pub fn put_star(flat: [i64; 64], at: usize, star: Centroid) -> [i64; 64]
+    requires { ⌜ at ≤ 61 ⌝ }
+    ensures { λ r. ⌜ r ≡ withStar flat at star ⌝ }
 {
-    match attitude {
-        Attitude::Refused(refusal) => of_refusal(refusal),
-        Attitude::Found(matrix) => of_matrix(matrix),
+    let mut put = flat;
+    put[at] = signed(star.x);
+    put[at + 1] = signed(star.y);
+    put[at + 2] = signed(star.brightness);
+    put
+}
+
+// A frame's eight stars from place 6 on.
+pub fn put_stars(flat: [i64; 64], stars: [Centroid; 8]) -> [i64; 64]
+    ensures { λ r. ⌜ r ≡ withStars stars 8 flat ⌝ }
+{
+    let mut put = flat;
+    let mut k: usize = 0;
+    while k < 8 {
+        let star = stars[k];
+        let next = put_star(put, 6 + 3 * k, star);
+        put = next;
+        k += 1;
     }
+    put
+}
+
+// The star of direction i by its record number, -1 for none, and 0 behind the directions.
+fn name_at(words: [u16; 8], i: usize, directions: usize, stars: usize) -> i64
+    requires { ⌜ i ≤ 7 ⌝ }
+    ensures { λ r. ⌜ r ≡ nameAt words directions stars i ⌝ }
+{
+    if directions <= i {
+        return 0;
+    }
+    let word = words[i] as usize;
+    if stars <= word {
+        return -1;
+    }
+    signed(word as u64)
+}
+
+// The stars of eight directions from a place on.
+pub fn put_names(
+    flat: [i64; 64],
+    at: usize,
+    words: [u16; 8],
+    directions: usize,
+    stars: usize,
+) -> [i64; 64]
+    requires { ⌜ at ≤ 56 ⌝ }
+    ensures { λ r. ⌜ r ≡ withNames at words directions stars 8 flat ⌝ }
+{
+    let mut put = flat;
+    let mut i: usize = 0;
+    while i < 8 {
+        let name = name_at(words, i, directions, stars);
+        put[at + i] = name;
+        i += 1;
+    }
+    put
 }

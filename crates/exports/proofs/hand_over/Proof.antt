@@ -64,9 +64,13 @@ loop-again : tie.Need-loop-again Inv-loop μ-loop
 loop-again c =
     let l = c .before .before .loop in
     let s = c .before .before .before .before in
-    let e = kept w64 {r = getD (s .args .t2) (l .i) (pos 0)} (c .out .given) refl in
-    (search needs, l .inv .1, l .inv .2, simp length-set (l .inv .3),
-    rw (e, l .inv .4) (stored (s .args .t2) (s .args .out .now) (l .i) (search needs) (search needs)))
+    let e = kept w64 {r = getD (s .args .t2) (l .i) (pos 0)} (c .out .given) refl in (
+      search needs,
+      l .inv .1,
+      l .inv .2,
+      simp length-set (l .inv .3),
+      rw (e, l .inv .4) (stored (s .args .t2) (s .args .out .now) (l .i) (search needs) (search needs)),
+    )
 
 same-length : tie.Need-same-length Inv-loop μ-loop
 same-length c = search needs

@@ -38,7 +38,7 @@ same-length c = search needs
 
 returns-2 : tie.Need-returns-2
 unfolding attitudeHanded
-returns-2 c = 
+returns-2 c =
     let t = c .before .before .before in
     let v4 = t .before .before in
     let v3 = v4 .before in

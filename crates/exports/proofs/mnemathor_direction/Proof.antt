@@ -21,10 +21,10 @@ same-length : tie.Need-same-length
 same-length c = search needs
 
 returns : tie.Need-returns
-returns c = 
+returns c =
     let d = c .before .before .before in
     let s = d .before .before .fits in
-    handed directionNumbers _ (c .before .hand-over .ensures) (c .before .before .of-direction .ensures) 
+    handed directionNumbers _ (c .before .hand-over .ensures) (c .before .before .of-direction .ensures)
     (d .direction-of .ensures ∙ (λ i. directionOf (back (param (s .cx)) i) (back (param (s .cy)) i) (back (param (s .f)) i) (back (param (s .x)) i) (back (param (s .y)) i)))
 
 pub mnemathor-direction-spec : {M : Type 1} → statement M

@@ -1,9 +1,9 @@
--- `exports::flat::of_attitude` meets its contract, case by case. Assumes nothing.
+-- `exports::answers::of_attitude` meets its contract, case by case. Assumes nothing.
 use mathlib.Core.Path.{sym, ap, _∙_}
 use Rattle.exports.specs.Attitude.{attitudeNumbers}
 use borrow.Author.Needs.{needs}
-use Rattle.exports.proofs.flat.of_attitude.Statement.{statement}
-use Rattle.exports.proofs.flat.of_attitude.Tie as tie
+use Rattle.exports.proofs.answers.of_attitude.Statement.{statement}
+use Rattle.exports.proofs.answers.of_attitude.Tie as tie
 
 enum-known-attitude : tie.Need-enum-known-attitude
 enum-known-attitude c = search needs

@@ -1,9 +1,9 @@
--- `exports::flat::of_direction` meets its contract, case by case. Assumes nothing.
+-- `exports::answers::of_direction` meets its contract, case by case. Assumes nothing.
 use mathlib.Core.Path.{sym, ap, _∙_}
 use Rattle.exports.specs.Direction.{directionNumbers}
 use borrow.Author.Needs.{needs}
-use Rattle.exports.proofs.flat.of_direction.Statement.{statement}
-use Rattle.exports.proofs.flat.of_direction.Tie as tie
+use Rattle.exports.proofs.answers.of_direction.Statement.{statement}
+use Rattle.exports.proofs.answers.of_direction.Tie as tie
 
 enum-known-direction : tie.Need-enum-known-direction
 enum-known-direction c = search needs

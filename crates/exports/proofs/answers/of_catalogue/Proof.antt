@@ -1,9 +1,9 @@
--- `exports::flat::of_catalogue` meets its contract, case by case. Assumes nothing.
+-- `exports::answers::of_catalogue` meets its contract, case by case. Assumes nothing.
 use mathlib.Core.Path.{sym, ap, _∙_}
 use Rattle.exports.specs.Catalogue.{catalogueNumbers}
 use borrow.Author.Needs.{needs}
-use Rattle.exports.proofs.flat.of_catalogue.Statement.{statement}
-use Rattle.exports.proofs.flat.of_catalogue.Tie as tie
+use Rattle.exports.proofs.answers.of_catalogue.Statement.{statement}
+use Rattle.exports.proofs.answers.of_catalogue.Tie as tie
 
 enum-known-checked : tie.Need-enum-known-checked
 enum-known-checked c = search needs

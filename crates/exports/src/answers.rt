@@ -1,0 +1,150 @@
+// What each call hands over.
+use crate::flat::of_count;
+use crate::flat::of_matrix;
+use crate::flat::of_outcome;
+use crate::flat::of_refusal;
+use crate::flat::of_vector;
+use crate::flat::put_matrix;
+use crate::flat::put_names;
+use crate::flat::put_star;
+use crate::flat::put_stars;
+use crate::flat::signed;
+use attitude::Attitude;
+use catalogue::Checked;
+use centroid::Centroid;
+use direction::Direction;
+use frame::Judgement;
+use frame::Listing;
+use frame::Report;
+use refusal::Outcome;
+use search::Identification;
+use tracker::Tracked;
+use verdict::Kind;
+use verdict::Verdict;
+ghost use mathlib.Core.Path.{_≡_};
+ghost use Rattle.frame.specs.Stars.{nought as noughtOf};
+ghost use Rattle.exports.specs.Numbers.{acceptedNumbers, rankingNumbers};
+ghost use Rattle.exports.specs.Catalogue.{catalogueNumbers};
+ghost use Rattle.exports.specs.Direction.{directionNumbers};
+ghost use Rattle.exports.specs.Attitude.{attitudeNumbers};
+ghost use Rattle.exports.specs.Frame.{centroidIn, judgedNumbers, verdictNumbers, reportNumbers, listingNumbers};
+ghost use Rattle.exports.specs.Search.{searchNumbers};
+ghost use Rattle.exports.specs.Chain.{chainNumbers};
+
+fn nought() -> Centroid
+    ensures { λ r. ⌜ r ≡ noughtOf ⌝ }
+{
+    Centroid {
+        x: 0,
+        y: 0,
+        brightness: 0,
+    }
+}
+
+// The position and brightness of a measured pixel, and zeros for any other.
+fn centroid_in(kind: Kind) -> Centroid
+    ensures { λ r. ⌜ r ≡ centroidIn kind ⌝ }
+{
+    match kind {
+        Kind::Dark => nought(),
+        Kind::Beaten => nought(),
+        Kind::Edge => nought(),
+        Kind::Flat => nought(),
+        Kind::Measured(centroid) => centroid,
+    }
+}
+
+fn of_judged(verdict: Verdict) -> [i64; 64]
+    ensures { λ r. ⌜ r ≡ judgedNumbers verdict ⌝ }
+{
+    let kind = verdict.kind;
+    let mut flat = [0i64; 64];
+    flat[2] = signed(verdict.row as u64);
+    flat[3] = signed(verdict.column as u64);
+    flat[4] = signed(verdict::kind_number(kind) as u64);
+    put_star(flat, 5, centroid_in(kind))
+}
+
+pub fn of_verdict(judgement: Judgement) -> [i64; 64]
+    ensures { λ r. ⌜ r ≡ verdictNumbers judgement ⌝ }
+{
+    match judgement {
+        Judgement::Refused(refusal) => of_refusal(refusal),
+        Judgement::Judged(verdict) => of_judged(verdict),
+    }
+}
+
+// A frame's list: how many stars it has, the three counts, and the stars.
+fn of_report(report: Report) -> [i64; 64]
+    ensures { λ r. ⌜ r ≡ acceptedNumbers (reportNumbers report) ⌝ }
+{
+    let stars = report.stars;
+    let mut flat = [0i64; 64];
+    flat[2] = signed(report.count as u64);
+    flat[3] = signed(report.measured as u64);
+    flat[4] = signed(report.edge as u64);
+    flat[5] = signed(report.flat as u64);
+    put_stars(flat, stars)
+}
+
+pub fn of_listing(listing: Listing) -> [i64; 64]
+    ensures { λ r. ⌜ r ≡ listingNumbers listing ⌝ }
+{
+    let outcome = listing.outcome;
+    let report = listing.report;
+    of_outcome(outcome, of_report(report))
+}
+
+pub fn of_direction(direction: Direction) -> [i64; 64]
+    ensures { λ r. ⌜ r ≡ directionNumbers direction ⌝ }
+{
+    match direction {
+        Direction::Refused(refusal) => of_refusal(refusal),
+        Direction::Found(v) => of_vector(v),
+    }
+}
+
+pub fn of_catalogue(checked: Checked) -> [i64; 64]
+    ensures { λ r. ⌜ r ≡ catalogueNumbers checked ⌝ }
+{
+    match checked {
+        Checked::Refused(refusal) => of_refusal(refusal),
+        Checked::Records(n) => of_count(n),
+    }
+}
+
+pub fn of_ranking(outcome: Outcome) -> [i64; 64]
+    ensures { λ r. ⌜ r ≡ rankingNumbers outcome ⌝ }
+{
+    of_outcome(outcome, [0i64; 64])
+}
+
+pub fn of_search(identification: Identification, directions: usize, stars: usize) -> [i64; 64]
+    ensures { λ r. ⌜ r ≡ searchNumbers directions stars identification ⌝ }
+{
+    let outcome = identification.outcome;
+    let words = identification.stars;
+    let named = put_names(of_count(directions), 3, words, directions, stars);
+    of_outcome(outcome, named)
+}
+
+pub fn of_attitude(attitude: Attitude) -> [i64; 64]
+    ensures { λ r. ⌜ r ≡ attitudeNumbers attitude ⌝ }
+{
+    match attitude {
+        Attitude::Refused(refusal) => of_refusal(refusal),
+        Attitude::Found(matrix) => of_matrix(matrix),
+    }
+}
+
+pub fn of_chain(tracked: Tracked, stars: usize) -> [i64; 64]
+    ensures { λ r. ⌜ r ≡ chainNumbers stars tracked ⌝ }
+{
+    let outcome = tracked.outcome;
+    let report = tracked.report;
+    let words = tracked.stars;
+    let matrix = tracked.matrix;
+    let count = report.count;
+    let named = put_names(of_report(report), 30, words, count, stars);
+    of_outcome(outcome, put_matrix(named, 38, matrix))
+}
