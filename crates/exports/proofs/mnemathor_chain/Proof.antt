@@ -41,17 +41,18 @@ same-length-2 : tie.Need-same-length-2
 same-length-2 c = search needs
 
 returns : tie.Need-returns
-returns c = 
+returns c =
     let o = c .before .before in
     let n = o .before .before in
     let t = n .before .before .before in
     let s = t .before .before .before .before .before in
     let a = s .args in
-    let b = a .catalogue .now in
-    (t .track .ensures .1 .0 ∙ ap (λ (g : Settings). roomAfter (call (a .samples .now) b g (a .room .now))) (settled s),
-    handed (chainNumbers (recordsIn b)) _ (c .before .hand-over .ensures)
-    (o .of-chain .ensures ∙ ap (λ (k : ℕ). chainNumbers k (t .track .result)) (n .records .ensures))
-    (t .track .ensures .0 ∙ ap (λ (g : Settings). trackedOf (call (a .samples .now) b g (a .room .now))) (settled s)))
+    let b = a .catalogue .now in (
+      t .track .ensures .1 .0 ∙ ap (λ (g : Settings). roomAfter (call (a .samples .now) b g (a .room .now))) (settled s),
+      handed (chainNumbers (recordsIn b)) _ (c .before .hand-over .ensures)
+          (o .of-chain .ensures ∙ ap (λ (k : ℕ). chainNumbers k (t .track .result)) (n .records .ensures))
+          (t .track .ensures .0 ∙ ap (λ (g : Settings). trackedOf (call (a .samples .now) b g (a .room .now))) (settled s)),
+    )
 
 pub mnemathor-chain-spec : {M : Type 1} → statement M
 mnemathor-chain-spec =

@@ -23,7 +23,7 @@ of-outcome-requires c κs = search needs
 
 returns : tie.Need-returns
 unfolding joined withNames
-returns c = 
+returns c =
     let matrix = c .before in
     let names = matrix .before in
     let report = names .before in

@@ -1,0 +1,176 @@
+// The recorded calls, one function a kind: its numbers and buffers are read, the call is made, and what it hands over is printed.
+use crate::print::checksum;
+use crate::print::print_call;
+use crate::print::print_end;
+use crate::print::print_more;
+use crate::stream::expand;
+use crate::stream::read_directions;
+use crate::stream::read_vectors;
+use crate::stream::read_words;
+use crate::stream::word;
+use exports::signed;
+
+pub fn verdict(fd: i32, bytes: &mut [u8], samples: &mut [u16]) {
+    let width = word(fd) as usize;
+    let height = word(fd) as usize;
+    let threshold = word(fd) as usize;
+    let row = word(fd) as usize;
+    let column = word(fd) as usize;
+    let n = read_words(fd, bytes, samples);
+    let mut out = [0i64; 64];
+    exports::mnemathor_verdict(
+        &samples[0..n],
+        width,
+        height,
+        threshold,
+        row,
+        column,
+        &mut out,
+    );
+    print_call(1, &out, 8);
+    print_end();
+}
+
+pub fn list(fd: i32, bytes: &mut [u8], samples: &mut [u16]) {
+    let width = word(fd) as usize;
+    let height = word(fd) as usize;
+    let threshold = word(fd) as usize;
+    let n = read_words(fd, bytes, samples);
+    let mut out = [0i64; 64];
+    exports::mnemathor_list(&samples[0..n], width, height, threshold, &mut out);
+    print_call(2, &out, 30);
+    print_end();
+}
+
+pub fn direction(fd: i32) {
+    let cx = signed(word(fd));
+    let cy = signed(word(fd));
+    let f = signed(word(fd));
+    let x = signed(word(fd));
+    let y = signed(word(fd));
+    let mut out = [0i64; 64];
+    exports::mnemathor_direction(cx, cy, f, x, y, &mut out);
+    print_call(3, &out, 5);
+    print_end();
+}
+
+pub fn catalogue(fd: i32, stars: &mut [u8]) {
+    let n = expand(fd, 1, stars);
+    let mut out = [0i64; 64];
+    exports::mnemathor_catalogue(&stars[0..n], &mut out);
+    print_call(4, &out, 3);
+    print_end();
+}
+
+// The room's sum is printed as it is before the call and after it.
+pub fn ranking(fd: i32, bytes: &mut [u8], stars: &mut [u8], room: &mut [u16]) {
+    let tolerance = word(fd);
+    let mut directions = [0i32; 40];
+    let d = read_directions(fd, bytes, &mut directions);
+    let s = expand(fd, 1, stars);
+    let w = read_words(fd, bytes, room);
+    let before = checksum(&room[0..w]);
+    let mut out = [0i64; 64];
+    exports::mnemathor_ranking(
+        &directions[0..d],
+        &stars[0..s],
+        tolerance,
+        &mut room[0..w],
+        &mut out,
+    );
+    print_call(5, &out, 2);
+    print_more(before);
+    print_more(checksum(&room[0..w]));
+    print_end();
+}
+
+pub fn search(fd: i32, bytes: &mut [u8], stars: &mut [u8], room: &mut [u16]) {
+    let needed = word(fd) as usize;
+    let tolerance = word(fd);
+    let mut directions = [0i32; 40];
+    let d = read_directions(fd, bytes, &mut directions);
+    let s = expand(fd, 1, stars);
+    let w = read_words(fd, bytes, room);
+    let mut out = [0i64; 64];
+    exports::mnemathor_search(
+        &directions[0..d],
+        &stars[0..s],
+        needed,
+        tolerance,
+        &room[0..w],
+        &mut out,
+    );
+    print_call(6, &out, 11);
+    print_end();
+}
+
+pub fn attitude(fd: i32, bytes: &mut [u8]) {
+    let mut vectors = [0i64; 12];
+    let n = read_vectors(fd, bytes, &mut vectors);
+    let mut out = [0i64; 64];
+    exports::mnemathor_attitude(&vectors[0..n], &mut out);
+    print_call(7, &out, 11);
+    print_end();
+}
+
+fn print_chain(
+    samples: &[u16],
+    width: usize,
+    height: usize,
+    threshold: usize,
+    cx: i64,
+    cy: i64,
+    f: i64,
+    stars: &[u8],
+    needed: usize,
+    tolerance: u64,
+    room: &mut [u16],
+) {
+    let before = checksum(room);
+    let mut out = [0i64; 64];
+    exports::mnemathor_chain(
+        samples,
+        width,
+        height,
+        threshold,
+        cx,
+        cy,
+        f,
+        stars,
+        needed,
+        tolerance,
+        room,
+        &mut out,
+    );
+    print_call(8, &out, 47);
+    print_more(before);
+    print_more(checksum(room));
+    print_end();
+}
+
+pub fn chain(fd: i32, bytes: &mut [u8], samples: &mut [u16], stars: &mut [u8], room: &mut [u16]) {
+    let width = word(fd) as usize;
+    let height = word(fd) as usize;
+    let threshold = word(fd) as usize;
+    let cx = signed(word(fd));
+    let cy = signed(word(fd));
+    let f = signed(word(fd));
+    let needed = word(fd) as usize;
+    let tolerance = word(fd);
+    let n = read_words(fd, bytes, samples);
+    let s = expand(fd, 1, stars);
+    let w = read_words(fd, bytes, room);
+    print_chain(
+        &samples[0..n],
+        width,
+        height,
+        threshold,
+        cx,
+        cy,
+        f,
+        &stars[0..s],
+        needed,
+        tolerance,
+        &mut room[0..w],
+    );
+}

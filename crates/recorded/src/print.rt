@@ -1,0 +1,54 @@
+// Lines of numbers on standard output.
+ghost use Prim.Native.Nat.{_<_};
+use libc::STDOUT_FILENO;
+
+fn print_space() {
+    io::write_all(STDOUT_FILENO, b" ");
+}
+
+fn print_signed(x: i64) {
+    if x < 0 {
+        io::write_all(STDOUT_FILENO, b"-");
+    }
+    io::print_decimal(STDOUT_FILENO, numbers::abs(x));
+}
+
+// The kind of a call and the first n numbers that it handed over.
+pub fn print_call(kind: u64, out: &[i64], n: usize) {
+    io::print_decimal(STDOUT_FILENO, kind);
+    let mut i: usize = 0;
+    while i < n {
+        if i < out.len() {
+            print_space();
+            print_signed(out[i]);
+        }
+        i += 1;
+    }
+}
+
+// One more number of a line.
+pub fn print_more(n: u64) {
+    print_space();
+    io::print_decimal(STDOUT_FILENO, n);
+}
+
+pub fn print_end() {
+    io::write_all(STDOUT_FILENO, b"\n");
+}
+
+fn wide(x: u16) -> u64
+    ensures { λ r. ⌜ r < 65536 ⌝ }
+{
+    x as u64
+}
+
+// A sum that tells rooms apart.
+pub fn checksum(room: &[u16]) -> u64 {
+    let mut sum: u64 = 0;
+    let mut i: usize = 0;
+    while i < room.len() {
+        sum = (sum * 31 + wide(room[i]) + 1) % 1000003;
+        i += 1;
+    }
+    sum
+}
