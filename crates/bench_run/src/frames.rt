@@ -91,33 +91,57 @@ fn beaten(letter: &[u8], samples: &[u16], threshold: usize) {
     say::end();
 }
 
+fn case_a() {
+    let mut samples = [0u16; 49];
+    samples[24] = 100;
+    pixel(b"A", &samples, 50, 3, 3);
+    counts(b"A", &samples, 50);
+}
+
+fn case_b() {
+    let mut samples = [0u16; 49];
+    samples[24] = 100;
+    samples[25] = 100;
+    pixel(b"B", &samples, 50, 3, 3);
+    pixel(b"B", &samples, 50, 3, 4);
+    counts(b"B", &samples, 50);
+}
+
+fn case_c() {
+    let mut samples = [0u16; 49];
+    samples[24] = 100;
+    samples[23] = 50;
+    pixel(b"C", &samples, 50, 3, 3);
+    counts(b"C", &samples, 50);
+}
+
+fn case_d() {
+    let mut samples = [0u16; 49];
+    samples[24] = 100;
+    samples[0] = 24;
+    pixel(b"D", &samples, 50, 3, 3);
+    counts(b"D", &samples, 50);
+}
+
+fn case_e() {
+    let mut samples = [0u16; 49];
+    samples[23] = 100;
+    pixel(b"E", &samples, 50, 3, 2);
+    counts(b"E", &samples, 50);
+}
+
+fn case_f() {
+    let samples = [4095u16; 49];
+    pixel(b"F", &samples, 4095, 0, 0);
+    beaten(b"F", &samples, 4095);
+    counts(b"F", &samples, 4095);
+}
+
 pub fn run() {
-    let mut a = [0u16; 49];
-    a[24] = 100;
-    pixel(b"A", &a, 50, 3, 3);
-    counts(b"A", &a, 50);
-    let mut b = [0u16; 49];
-    b[24] = 100;
-    b[25] = 100;
-    pixel(b"B", &b, 50, 3, 3);
-    pixel(b"B", &b, 50, 3, 4);
-    counts(b"B", &b, 50);
-    let mut c = [0u16; 49];
-    c[24] = 100;
-    c[23] = 50;
-    pixel(b"C", &c, 50, 3, 3);
-    counts(b"C", &c, 50);
-    let mut d = [0u16; 49];
-    d[24] = 100;
-    d[0] = 24;
-    pixel(b"D", &d, 50, 3, 3);
-    counts(b"D", &d, 50);
-    let mut e = [0u16; 49];
-    e[23] = 100;
-    pixel(b"E", &e, 50, 3, 2);
-    counts(b"E", &e, 50);
-    let f = [4095u16; 49];
-    pixel(b"F", &f, 4095, 0, 0);
-    beaten(b"F", &f, 4095);
-    counts(b"F", &f, 4095);
+    case_a();
+    case_b();
+    case_c();
+    case_d();
+    case_e();
+    case_f();
 }

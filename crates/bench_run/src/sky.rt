@@ -7,58 +7,6 @@ use vectors::Vec3;
 
 const UNIT: i64 = 1000000000;
 
-// The three axes as the records 1, 2 and 3 of a catalogue; 10^9 is 59, 154, 202, 0 in bytes.
-const AXES: [u8; 48] = [
-    0,
-    0,
-    0,
-    1,
-    59,
-    154,
-    202,
-    0,
-    0,
-    0,
-    0,
-    0,
-    0,
-    0,
-    0,
-    0,
-    0,
-    0,
-    0,
-    2,
-    0,
-    0,
-    0,
-    0,
-    59,
-    154,
-    202,
-    0,
-    0,
-    0,
-    0,
-    0,
-    0,
-    0,
-    0,
-    3,
-    0,
-    0,
-    0,
-    0,
-    0,
-    0,
-    0,
-    0,
-    59,
-    154,
-    202,
-    0,
-];
-
 fn direction(letter: &[u8], cx: i64, x: i64) {
     say::text(letter);
     let answer = direction::direction_of(cx, 0, 16384, x, 0);
@@ -105,9 +53,12 @@ fn stars(words: [u16; 8], directions: usize) {
     }
 }
 
+// The stars are the three axes, as records 1, 2 and 3 of a catalogue; 10^9 is 3b 9a ca 00 in bytes.
 fn search(letter: &[u8], directions: &[i32], ranking: &[u16]) {
     say::text(letter);
-    let answer = search::search(directions, &AXES, 3, 0, ranking);
+    let axes =
+        b"\0\0\0\x01\x3b\x9a\xca\0\0\0\0\0\0\0\0\0\0\0\0\x02\0\0\0\0\x3b\x9a\xca\0\0\0\0\0\0\0\0\x03\0\0\0\0\0\0\0\0\x3b\x9a\xca\0";
+    let answer = search::search(directions, axes, 3, 0, ranking);
     let outcome = answer.outcome;
     match outcome {
         Outcome::Refused(refusal) => say::refused(refusal),
