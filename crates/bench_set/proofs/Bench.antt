@@ -7,6 +7,7 @@ use Prim.Native.Nat.{ℕ, _+_, _*_, _<_}
 use borrow.Author.Tests.{eqb-true, lt-leb}
 use lib.Dec.{lit≤, lit<, leb, eqb}
 use lib.IntN.{ℤ, pos, _-ℤ_}
+use lib.ListN.{drop}
 use Rattle.numbers.specs.Root.{Root}
 use Rattle.vectors.specs.declared.Vec3.{Vec3}
 use Rattle.vectors.specs.Triples.{tripleAt, pairDot}
@@ -107,30 +108,34 @@ only :
     identificationOf directions bytes needed tolerance words ≡ answer → Holds (search directions bytes needed tolerance words answer)
 only {directions} {bytes} {needed} {tolerance} {words} e = (e, λ r h. identified directions bytes needed tolerance words r h ∙ e)
 
--- ---- the statement
+-- ---- the statement, by the kinds of question
 
--- one case, and those below it
-infixr 20 _also_
-_also_ : {A B : Type 0} → A → B → A × B
-a also b = (a, b)
-
-pub bench : AllHold table
+-- A to F
+verdicts-hold : AllHold (drop 8 table) → AllHold table
 unfolding table lowest judgementOf firstOver kindOf peakKind edge beaten beats earlier some-below
     centroidOf brightness shiftX shiftY sum-below sumℤ-below borderSum
-    settingsOk positionOk between
-    identificationOf padTo refusals.refusalsOf refusals.rowsBeside refusals.demandOk lentOf clash first firstFrom some all listOk allWithin
+verdicts-hold below = (refl, (refl, (refl, (refl, (refl, (refl, (refl, (rest-beaten, below))))))))
+
+-- G and H
+directions-hold : AllHold (drop 10 table) → AllHold (drop 8 table)
+unfolding table settingsOk positionOk between
+directions-hold below = (
+  direction-by (pos 12288) (pos 0) (pos 16384) (pos 12288) (pos 0) refl refl n-G,
+  (direction-by (pos 12288) (pos 0) (pos 16384) (pos 0) (pos 0) refl refl n-H, below),
+)
+
+-- I, J and K
+attitudes-hold : AllHold (drop 13 table) → AllHold (drop 10 table)
+unfolding table
+attitudes-hold below = (case-I, (case-J, (case-K, below)))
+
+-- L to O
+searches-hold : AllHold (drop 13 table)
+unfolding table lowest identificationOf padTo refusals.refusalsOf refusals.rowsBeside refusals.demandOk lentOf clash first firstFrom some all
+    listOk allWithin
     catalogue.refusalsOf catalogue.lengthOk catalogue.brokenOf recordOk directionOk identityRises componentOf identityOf wordAt signedOf starsOf starsTo
     firstFit run row assigned standing pairs agreement agreeing pairDot tripleAt
-bench =
-    -- A, B, C, D, E
-    refl also refl also refl also refl also refl also refl
-    -- F
-    also refl also rest-beaten
-    -- G, H
-    also direction-by (pos 12288) (pos 0) (pos 16384) (pos 12288) (pos 0) refl refl n-G
-    also direction-by (pos 12288) (pos 0) (pos 16384) (pos 0) (pos 0) refl refl n-H
-    -- I, J, K
-    also case-I also case-J also case-K
-    -- L, M, N, O
-    also only refl also only refl also only refl also only refl
-    also tt
+searches-hold = (only refl, (only refl, (only refl, (only refl, tt))))
+
+pub bench : AllHold table
+bench = verdicts-hold (directions-hold (attitudes-hold searches-hold))
