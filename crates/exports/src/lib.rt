@@ -1,4 +1,4 @@
-// The C interface of the library: each call's answer as 64 signed numbers in a lent room. docs/C.md says which number stands where.
+// The C interface of the library: each call hands its answer over as 64 signed numbers in a lent room. The files of specs/ say which number stands where.
 mod answers;
 mod flat;
 
