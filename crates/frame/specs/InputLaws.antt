@@ -86,16 +86,13 @@ none-over l h k p = go (ltb 4095 (getD l k 0)) refl
     go true e = let f = over-first l k p (ltb-true 4095 (getD l k 0) e) in absurd (omega arith)
     go false e = ltb-false 4095 (getD l k 0) e
 
+pub over-end : (l : List ℕ) → ((k : ℕ) → k < length l → getD l k 0 ≤ 4095) → firstOver l ≡ length l
+unfolding firstOver
+over-end [] f = refl
+over-end (x ∷ xs) f = rw (le-ltb 4095 x (f 0 (omega arith)), over-end xs (λ k h. f (suc k) (omega arith)))
+
 over-none : (l : List ℕ) → ((k : ℕ) → k < length l → getD l k 0 ≤ 4095) → sampleOut l ≡ false
-over-none l f = go (ltb (firstOver l) (length l)) refl
-  where
-    go : (b : Bool) → ltb (firstOver l) (length l) ≡ b → b ≡ false
-    go true e =
-        let p = ltb-true (firstOver l) (length l) e in
-        let q = f (firstOver l) p in
-        let r = first-over l p .0 in
-        absurd (omega arith)
-    go false e = refl
+over-none l f = le-ltb (firstOver l) (length l) (omega (arith, over-end l f))
 
 -- ---- an accepted call
 

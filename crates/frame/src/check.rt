@@ -1,5 +1,7 @@
 // What a call on a frame asks of its inputs: refusals 1 to 4, and 15 for one pixel. The order of the tests is the order of the numbers.
 ghost use mathlib.Core.Path.{_≡_};
+ghost use Prim.Native.Nat.{ℕ, _≤_, _<_};
+ghost use lib.ListN.{length, getD};
 ghost use Rattle.refusal.specs.Table.{lowest};
 ghost use Rattle.frame.specs.Input.{within, firstOver, frameRows, pixelRows};
 use refusal::Outcome;
@@ -16,8 +18,30 @@ fn is_within(x: usize, least: usize, most: usize) -> bool
     x <= most
 }
 
+fn larger(a: u16, b: u16) -> u16
+    ensures { λ r. ⌜ (a ≤ r) × (b ≤ r) ⌝ }
+{
+    if a < b {
+        return b;
+    }
+    a
+}
+
+// The largest sample, or 0. No early way out, so that the compiler can take many samples at a time.
+fn largest(samples: &[u16]) -> u16
+    ensures { λ r. ⌜ ((k : ℕ) → k < length (now (samples .entry)) → getD (now (samples .entry)) k 0 ≤ r) ⌝ }
+{
+    let mut most: u16 = 0;
+    let mut i: usize = 0;
+    while i < samples.len() {
+        most = larger(most, samples[i]);
+        i += 1;
+    }
+    most
+}
+
 // The place of the first sample that is too large, or the number of samples.
-fn first_over(samples: &[u16]) -> usize
+fn look_for_over(samples: &[u16]) -> usize
     ensures { λ r. ⌜ r ≡ firstOver (now (samples .entry)) ⌝ }
 {
     let mut i: usize = 0;
@@ -28,6 +52,16 @@ fn first_over(samples: &[u16]) -> usize
         i += 1;
     }
     i
+}
+
+// The same. The look that leaves early, one sample at a time, is taken only where some sample is too large.
+fn first_over(samples: &[u16]) -> usize
+    ensures { λ r. ⌜ r ≡ firstOver (now (samples .entry)) ⌝ }
+{
+    if largest(samples) <= LARGEST {
+        return samples.len();
+    }
+    look_for_over(samples)
 }
 
 // Width and height are tested before their product is formed, so it cannot overflow.
