@@ -4,12 +4,13 @@
 //! compares all 64 numbers and every lent buffer. It ends with 1 if anything differs.
 
 use second::call::{Call, Entry, Lent, ENTRIES};
-use second::generate::any_call;
+use second::generate::{any_call, Scene};
 use second::linked;
 use second::random::Random;
 use second::search::Effort;
 use std::env;
 use std::process::ExitCode;
+use std::thread;
 use std::time::{Duration, Instant};
 
 /// Longer searches are left out.
@@ -17,6 +18,8 @@ const MOST_STARS_TRIED: u64 = 300_000;
 /// What the numbers' room holds before a call.
 const UNTOUCHED: i64 = 0x7A7A_7A7A_7A7A_7A7A;
 const DIFFERENCES_SHOWN: u64 = 5;
+/// No call of the library may take more stack than this.
+const STACK: usize = 64 * 1024;
 /// Calls of each entry point in a round: more of the quick ones.
 const CALLS_A_ROUND: [usize; 8] = [4, 2, 8, 4, 2, 4, 8, 1];
 
@@ -43,6 +46,7 @@ fn main() -> ExitCode {
     };
     let random = Random::new(seed);
     let mut run = Run { entries: [Count::default(); 8], nothing: Count::default(), shown: 0 };
+    run_with_little_stack(&random);
     let start = Instant::now();
     while start.elapsed() < Duration::from_secs(seconds) {
         for (entry, calls) in ENTRIES.into_iter().zip(CALLS_A_ROUND) {
@@ -60,6 +64,29 @@ fn main() -> ExitCode {
         0 => ExitCode::SUCCESS,
         _ => ExitCode::FAILURE,
     }
+}
+
+/// Calls of every entry point, and a chain with as many stars as there may be, each in a thread with no more
+/// stack than a call may take: one that took more would end the program.
+fn run_with_little_stack(random: &Random) {
+    let largest = Scene {
+        width: 200,
+        height: 160,
+        visible: 8,
+        unknown: 0,
+        records: 512,
+        equal_brightness: false,
+        background: true,
+    };
+    let calls = ENTRIES.iter().flat_map(|&entry| (0..8).map(move |_| any_call(random, entry)));
+    for call in calls.chain([largest.call(random)]) {
+        let (mut lent, mut out) = (call.lend(), [UNTOUCHED; 64]);
+        thread::scope(|scope| {
+            let builder = thread::Builder::new().stack_size(STACK);
+            builder.spawn_scoped(scope, || linked::run(&call, &mut lent, &mut out)).expect("a thread starts");
+        });
+    }
+    println!("every call runs in {STACK} bytes of stack");
 }
 
 impl Run {
