@@ -1,9 +1,9 @@
 -- What `lowest` is for: a refusal is given exactly when its row applies and no row before it does, and none is given exactly when no row applies.
 -- Assumes nothing.
 use mathlib.Core.Bool.{Bool, true, false, cond}
-use mathlib.Core.Path.{_≡_, refl, sym, ap, _∙_}
+use mathlib.Core.Path.{_≡_, refl, ap, subst, _∙_}
 use mathlib.Core.List.{List, [], _∷_, _++_}
-use Prim.Native.Nat.{ℕ, _≤_}
+use Prim.Native.Nat.{ℕ}
 use native.Mathlib.Omega.{arith}
 use Rattle.refusal.specs.declared.Refusal.{Refusal}
 use Rattle.refusal.specs.declared.Outcome.{Outcome}
@@ -107,26 +107,26 @@ otherwise-accepted (Refused r) b e = let z : _≡_ {A = ℕ} 0 1 = cc in absurd 
     impossible : _≡_ {A = ℕ} 0 1 → ⊥
     impossible z = omega arith
 
--- ---- a bound on the numbers of the rows bounds the number given
+-- ---- what holds of the number of every row holds of the number given
 
-unfoldable pub AtMost : ℕ → List Row → Type 0
-AtMost m [] = Unit
-AtMost m (r ∷ rs) = (r .number ≤ m) × AtMost m rs
+unfoldable pub Every : (ℕ → Type 0) → List Row → Type 0
+Every P [] = Unit
+Every P (r ∷ rs) = P (r .number) × Every P rs
 
-pub at-most-append : (m : ℕ) (xs ys : List Row) → AtMost m xs → AtMost m ys → AtMost m (xs ++ ys)
-unfolding AtMost
-at-most-append m [] ys a b = b
-at-most-append m (x ∷ xs) ys a b = (a .0, at-most-append m xs ys (a .1) b)
+pub every-append : (P : ℕ → Type 0) (xs ys : List Row) → Every P xs → Every P ys → Every P (xs ++ ys)
+unfolding Every
+every-append P [] ys a b = b
+every-append P (x ∷ xs) ys a b = (a .0, every-append P xs ys (a .1) b)
 
-by-bound : (m : ℕ) (c : Bool) (k p : ℕ) (rs : List Row) (q : Refusal) → k ≤ m → (lowest rs ≡ Refused q → q .number ≤ m) → cond c (refusalOf k p) (lowest rs) ≡ Refused q → q .number ≤ m
+by-number : (P : ℕ → Type 0) (c : Bool) (k p : ℕ) (rs : List Row) (q : Refusal) → P k → (lowest rs ≡ Refused q → P (q .number)) → cond c (refusalOf k p) (lowest rs) ≡ Refused q → P (q .number)
 unfolding numberIn
-by-bound m true k p rs q h f e = omega (arith, ap numberIn e)
-by-bound m false k p rs q h f e = f e
+by-number P true k p rs q h f e = subst P (ap numberIn e) h
+by-number P false k p rs q h f e = f e
 
-pub lowest-most : (m : ℕ) (rows : List Row) → AtMost m rows → (q : Refusal) → lowest rows ≡ Refused q → q .number ≤ m
-unfolding lowest AtMost
-lowest-most m [] a q e = let z : _≡_ {A = ℕ} 0 1 = cc in absurd (impossible z)
+pub lowest-every : (P : ℕ → Type 0) (rows : List Row) → Every P rows → (q : Refusal) → lowest rows ≡ Refused q → P (q .number)
+unfolding lowest Every
+lowest-every P [] a q e = let z : _≡_ {A = ℕ} 0 1 = cc in absurd (impossible z)
   where
     impossible : _≡_ {A = ℕ} 0 1 → ⊥
     impossible z = omega arith
-lowest-most m (r ∷ rs) a q e = by-bound m (r .applies) (r .number) (r .place) rs q (a .0) (lowest-most m rs (a .1) q) e
+lowest-every P (r ∷ rs) a q e = by-number P (r .applies) (r .number) (r .place) rs q (a .0) (lowest-every P rs (a .1) q) e

@@ -48,6 +48,10 @@ module _ (directions : List ℤ) (bytes : List ℕ) (needed tolerance : ℕ) (wo
   beside : lowest (refusalsOf directions bytes needed tolerance words) ≡ lowest (rowsBeside directions (recordsIn bytes) needed tolerance words)
   beside = catalogue-valid directions bytes needed tolerance words (valid-accepted bytes (v .catalogue))
 
+  -- with enough directions none of 6 to 12 applies
+  pub none-refuses : needed ≤ directionsIn directions → lowest (refusalsOf directions bytes needed tolerance words) ≡ Accepted
+  none-refuses l = beside ∙ none-applies directions (recordsIn bytes) needed tolerance words listed demanded once l
+
   -- the assignments that fit
   abbrev Fit : List ℕ → Type 0
   Fit = FitsHere (setupFor directions bytes needed tolerance) directions (starsOf bytes)
@@ -58,7 +62,7 @@ module _ (directions : List ℤ) (bytes : List ℕ) (needed tolerance : ℕ) (wo
 
     module _ (enough : needed ≤ directionsIn directions) where
       pub searched : Searched (setupFor directions bytes needed tolerance) words directions (starsOf bytes) r
-      searched = I .searched (beside ∙ none-applies directions (recordsIn bytes) needed tolerance words listed demanded once enough)
+      searched = I .searched (none-refuses enough)
 
       -- an assignment that fits is handed back
       pub accepted-fits : r .outcome ≡ Accepted → Fit (r .stars)

@@ -121,13 +121,16 @@ module _ (report : Report) (bytes : List ℕ) (s : Settings) (room₀ : List ℕ
         ranked = record { below = our-ranks .below; names = our-ranks .names; once = our-ranks .once };
       }
 
+  pub enough-sights : s .needed ≤ directionsIn seen
+  enough-sights = omega (arith, seen-count, h .enough)
+
   module _ (r : Identification) (i : Identified seen bytes (s .needed) (s .tolerance) (ourRanking report bytes s) r) where
     pub identification-is : r ≡ ourIdentification report bytes s
     unfolding ourIdentification
     identification-is = identified seen bytes (s .needed) (s .tolerance) (ourRanking report bytes s) r i
 
     pub our-search : Searched (setupFor seen bytes (s .needed) (s .tolerance)) (ourRanking report bytes s) seen (starsOf bytes) r
-    our-search = searched seen bytes (s .needed) (s .tolerance) (ourRanking report bytes s) our-call r i (omega (arith, seen-count, h .enough))
+    our-search = searched seen bytes (s .needed) (s .tolerance) (ourRanking report bytes s) our-call r i enough-sights
 
     pub our-settles : Settles seen bytes r
     our-settles =

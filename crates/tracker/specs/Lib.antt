@@ -9,3 +9,4 @@ pub mod AdmitLaws
 pub mod ChainLaws
 pub mod SettledLaws
 pub mod ReadyLaws
+pub mod NeverLaws

@@ -12,7 +12,7 @@ use Rattle.refusal.specs.declared.Refusal.{Refusal}
 use Rattle.refusal.specs.declared.Outcome.{Outcome}
 use Rattle.refusal.specs.declared.Outcome.the-variants.{Accepted, Refused}
 use Rattle.refusal.specs.Table.{Row, lowest, answered, otherwise}
-use Rattle.refusal.specs.Laws.{Silent, accepted-silent, otherwise-accepted, AtMost, at-most-append, lowest-most}
+use Rattle.refusal.specs.Laws.{Silent, accepted-silent, otherwise-accepted, Every, every-append, lowest-every}
 use Rattle.frame.specs.declared.Report.{Report}
 use Rattle.frame.specs.Input.{frameRows}
 use Rattle.frame.specs.InputLaws as input
@@ -127,16 +127,52 @@ ready c e =
       long = d .1;
     }
 
--- before anything is written no number above 12 is given
-pub refusals-most : (c : Call) → AtMost 12 (refusalsOf c)
-unfolding refusalsOf settingsRows demandRows catalogueRows AtMost
-refusals-most c =
+-- the numbers that are given before anything is written: none above 12, and neither 8 nor 11
+pub record Early (n : ℕ) : Type 0 where
+  pub most : n ≤ 12
+  pub no-8 : n ≡ 8 → ⊥
+  pub no-11 : n ≡ 11 → ⊥
+
+refusals-early : (c : Call) → Every Early (refusalsOf c)
+unfolding refusalsOf settingsRows demandRows catalogueRows Every
+refusals-early c =
     let s = c .settings in
     let f = frameRows (c .samples) (s .width) (s .height) (s .threshold) in
     let k = catalogue.refusalsOf (c .catalogue) in
     let d = demandRows s (length (c .room)) (listed c .report .count) in
-    at-most-append 12 f (settingsRows s ++ (k ++ d)) (omega arith, (omega arith, (omega arith, (omega arith, tt))))
-    (at-most-append 12 (settingsRows s) (k ++ d) (omega arith, tt) (at-most-append 12 k d (omega arith, (omega arith, tt)) (omega arith, (omega arith, (omega arith, tt)))))
+    every-append Early f (settingsRows s ++ (k ++ d)) (early-1, (early-2, (early-3, (early-4, tt))))
+    (every-append Early (settingsRows s) (k ++ d) (early-5, tt)
+    (every-append Early k d (early-6, (early-7, tt)) (early-9, (early-10, (early-12, tt)))))
+  where
+    early-1 : Early 1
+    early-1 = record { most = omega arith; no-8 = λ e. omega arith; no-11 = λ e. omega arith }
 
-pub refused-most : (c : Call) (q : Refusal) → lowest (refusalsOf c) ≡ Refused q → q .number ≤ 12
-refused-most c = lowest-most 12 (refusalsOf c) (refusals-most c)
+    early-2 : Early 2
+    early-2 = record { most = omega arith; no-8 = λ e. omega arith; no-11 = λ e. omega arith }
+
+    early-3 : Early 3
+    early-3 = record { most = omega arith; no-8 = λ e. omega arith; no-11 = λ e. omega arith }
+
+    early-4 : Early 4
+    early-4 = record { most = omega arith; no-8 = λ e. omega arith; no-11 = λ e. omega arith }
+
+    early-5 : Early 5
+    early-5 = record { most = omega arith; no-8 = λ e. omega arith; no-11 = λ e. omega arith }
+
+    early-6 : Early 6
+    early-6 = record { most = omega arith; no-8 = λ e. omega arith; no-11 = λ e. omega arith }
+
+    early-7 : Early 7
+    early-7 = record { most = omega arith; no-8 = λ e. omega arith; no-11 = λ e. omega arith }
+
+    early-9 : Early 9
+    early-9 = record { most = omega arith; no-8 = λ e. omega arith; no-11 = λ e. omega arith }
+
+    early-10 : Early 10
+    early-10 = record { most = omega arith; no-8 = λ e. omega arith; no-11 = λ e. omega arith }
+
+    early-12 : Early 12
+    early-12 = record { most = omega arith; no-8 = λ e. omega arith; no-11 = λ e. omega arith }
+
+pub refused-early : (c : Call) (q : Refusal) → lowest (refusalsOf c) ≡ Refused q → Early (q .number)
+refused-early c = lowest-every Early (refusalsOf c) (refusals-early c)

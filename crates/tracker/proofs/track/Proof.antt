@@ -16,7 +16,7 @@ use Rattle.tracker.specs.declared.Tracked.{Tracked}
 use Rattle.tracker.specs.Chain.{Call, call, listed, settingsRows, demandRows, refusalsOf, refusedWith, locatedOf, rankedRoom, trackedOf, roomAfter}
 use Rattle.tracker.specs.Ready.{Ready, Names}
 use Rattle.tracker.specs.AdmitLaws.{refusals-joined}
-use Rattle.tracker.specs.ReadyLaws.{ready, refused-most}
+use Rattle.tracker.specs.ReadyLaws.{ready, refused-early}
 use Rattle.tracker.proofs.track.Statement.{statement}
 use Rattle.tracker.proofs.track.Tie as tie
 
@@ -75,7 +75,7 @@ nothing-named c q t e h =
     let o : t .outcome ≡ Refused q = ap (λ (x : Tracked). x .outcome) h in
     record {
       first = λ a. absurd (zero-one (let b : Refused q ≡ Accepted = sym o ∙ a in cc));
-      none = λ n. absurd (omega (arith, refused-most c q e, ap numberIn (sym o ∙ n)));
+      none = λ n. absurd (omega (arith, refused-early c q e .most, ap numberIn (sym o ∙ n)));
     }
 
 -- ---- the needs
