@@ -1,4 +1,4 @@
--- Lists whose numbers are within a bound: all zeros, and one number stored. Assumes nothing.
+-- Lists whose numbers are within a bound: all zeros, and one number stored. And tables in which one more place is marked. Assumes nothing.
 use mathlib.Core.Path.{_≡_, refl, sym, ap, subst, _∙_}
 use mathlib.Core.List.{List, []}
 use Prim.Native.Nat.{ℕ, zero, suc, _<_}
@@ -24,3 +24,11 @@ at-set {b} l j k x h all near (no d) = subst (Within b) (sym (getD-set-other l j
 
 pub within-set : {b : ℕ} (l : List ℤ) (j : ℕ) (x : ℤ) → j < length l → AllWithin b l → Within b x → AllWithin b (set l j x)
 within-set l j x h all near = record { at = λ k. at-set l j k x h all near (ℕ-discrete k j) }
+
+-- what is marked stays so where one more is
+pub still-marked : (l : List ℕ) (k m : ℕ) → k < length l → getD l m 0 ≡ 1 → getD (set l k 1) m 0 ≡ 1
+still-marked l k m h e = go (ℕ-discrete m k)
+  where
+    go : Dec (m ≡ k) → getD (set l k 1) m 0 ≡ 1
+    go (yes q) = ap (λ (n : ℕ). getD (set l k 1) n 0) q ∙ getD-set-same l k 1 0 h
+    go (no d) = getD-set-other l k m 1 0 d ∙ e

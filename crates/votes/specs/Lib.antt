@@ -5,3 +5,5 @@ pub mod Votes
 pub mod Laws
 pub mod Progress
 pub mod ProgressLaws
+pub mod Near
+pub mod NearLaws

@@ -16,7 +16,7 @@ use Rattle.votes.proofs.count_star.Statement.{statement}
 use Rattle.votes.proofs.count_star.Tie as tie
 
 abbrev Inv-loop : tie.InvT-loop
-Inv-loop products count i stars tolerance a votes₀ own₀ b₀ votes own b =
+Inv-loop near products count i stars tolerance a votes₀ own₀ b₀ votes own b =
     (b ≤ a)
     × (length votes ≡ length votes₀)
     × C.Passed (setting products count i stars tolerance) a b votes
@@ -24,30 +24,30 @@ Inv-loop products count i stars tolerance a votes₀ own₀ b₀ votes own b =
     × (own ≡ from (setting products count i stars tolerance) b a)
 
 abbrev μ-loop : tie.MeasureT-loop
-μ-loop products count i stars tolerance a votes₀ own₀ b₀ votes own b = a - b
+μ-loop near products count i stars tolerance a votes₀ own₀ b₀ votes own b = a - b
 
 -- what the stars are counted by
 abbrev by : tie.Start Inv-loop μ-loop → Setting
 by s = setting (s .args .products .now) (s .args .count) (s .args .i) (s .args .stars .now) (s .args .tolerance)
 
 -- what the pair gives
-gives : (c : tie.After-agreeing-with Inv-loop μ-loop)
-    → let s = c .before .before .before .before .before in
-    c .agreeing-with .result ≡ between (by s) (s .args .a) (c .before .before .before .loop .b)
+gives : (c : tie.After-agreeing-near Inv-loop μ-loop)
+    → let s = c .before .before .before .before .before .before in
+    c .agreeing-near .result ≡ between (by s) (s .args .a) (c .before .before .before .loop .b)
 unfolding between
 gives c =
-    let x = c .before .before .before .before .before .args in
+    let x = c .before .before .before .before .before .before .args in
     let d = c .before .pair-dot in
-    c .agreeing-with .ensures ∙ (λ k. number (x .count) (agreesWith (x .products .now) (x .i) (kept w64 (d .ok) (d .ensures .0) k) (x .tolerance)))
+    c .agreeing-near .ensures ∙ (λ k. number (x .count) (agreesWith (x .products .now) (x .i) (kept w64 (d .ok) (d .ensures .0) k) (x .tolerance)))
 
 -- how large the counters are
 raised-most : (c : tie.After-slice-known2 Inv-loop μ-loop)
     → let l = c .before .before .before .before .loop in
-    let more = c .before .agreeing-with .result in
+    let more = c .before .agreeing-near .result in
     (getD (l .votes) (l .b) 0 + more ≤ 4104) × (l .own + more ≤ 4104)
 raised-most c =
     let l = c .before .before .before .before .loop in
-    let s = c .before .before .before .before .before .before in
+    let s = c .before .before .before .before .before .before .before in
     let x = s .args in
     let g = gives (c .before) in
     let m = between-most (by s) (x .a) (l .b) in
@@ -58,16 +58,16 @@ raised-most c =
 
 loop-holds : tie.Need-loop-holds Inv-loop μ-loop
 loop-holds c =
-    let s = c .before in
-    (search needs, refl, below-none _, (λ k h. s .pre .1 .1 .1 .1 k), sym (from-none _ _))
+    let s = c .before .before in
+    (search needs, refl, below-none _, (λ k h. s .pre .1 .1 .1 .1 .1 .1 k), sym (from-none _ _))
 
 pair-dot-requires : tie.Need-pair-dot-requires Inv-loop μ-loop
 pair-dot-requires c κs = search needs
 
-agreeing-with-requires : tie.Need-agreeing-with-requires Inv-loop μ-loop
-agreeing-with-requires c κs =
-    let s = c .before .before .before .before in
-    (s .pre .0, (s .pre .1 .0, near (arg {w = w64} (c .pair-dot .ensures .1) tt) tt))
+agreeing-near-requires : tie.Need-agreeing-near-requires Inv-loop μ-loop
+agreeing-near-requires c κs =
+    let s = c .before .before .before .before .before in
+    (s .pre .0, (s .pre .1 .0, (near (arg {w = w64} (c .pair-dot .ensures .1) tt) tt, (s .pre .1 .1 .1 .0, s .pre .1 .1 .1 .1 .0))))
 
 mul-votes : tie.Need-mul-votes Inv-loop μ-loop
 mul-votes c = search needs
@@ -93,7 +93,7 @@ loop-less c = search needs
 loop-again : tie.Need-loop-again Inv-loop μ-loop
 loop-again c =
     let l = c .before .before .before .before .loop in
-    let s = c .before .before .before .before .before .before in
+    let s = c .before .before .before .before .before .before .before in
     let x = s .args in
     let g = gives (c .before) in
     let h : l .b < x .a = omega arith in
@@ -117,7 +117,7 @@ same-length c = search needs
 returns : tie.Need-returns Inv-loop μ-loop
 returns c =
     let l = c .before .loop in
-    let s = c .before .before .before in
+    let s = c .before .before .before .before in
     let x = s .args in
     let e : l .b ≡ x .a = omega arith in
     C.counted (by s) (x .a) (l .own) (l .votes) (omega arith)
@@ -131,7 +131,7 @@ count-star-spec =
     μ-loop
     loop-holds
     pair-dot-requires
-    agreeing-with-requires
+    agreeing-near-requires
     mul-votes
     slice-read-votes
     add-votes

@@ -1,0 +1,20 @@
+-- Which star pairs can agree with a direction pair at all. Products fall into places by their size, each place 2^50 wide. Assumes nothing.
+use mathlib.Core.Path.{_≡_}
+use mathlib.Core.Bool.{true}
+use mathlib.Core.List.{List}
+use Prim.Native.Nat.{ℕ, _/_, _<_}
+use lib.IntN.{ℤ, pos, natAbs}
+use lib.ListN.{getD}
+use Rattle.numbers.specs.Within.{Within}
+use Rattle.vectors.specs.Agree.{agreeing}
+
+abbrev pub placeOf : ℤ → ℕ
+placeOf p = natAbs p / 1125899906842624
+
+-- the table marks the place of each product that agrees with q
+pub record Marks (near : List ℕ) (tolerance : ℕ) (q : ℤ) : Type 0 where
+  pub marked : (p : ℤ) → Within 3000000000000000000 p → agreeing q p tolerance ≡ true → getD near (placeOf p) 0 ≡ 1
+
+-- and so for each of the first products
+pub record AllMarked (near : List ℕ) (products : List ℤ) (count tolerance : ℕ) : Type 0 where
+  pub each : (j : ℕ) → j < count → Marks near tolerance (getD products j (pos 0))

@@ -1,0 +1,46 @@
+-- Products that agree are near each other in size, and a product whose place is not marked agrees with none. Assumes nothing.
+use mathlib.Core.Path.{_≡_, refl, sym, ap, _∙_}
+use mathlib.Core.Bool.{Bool, true, false, and-false}
+use mathlib.Core.List.{List}
+use Prim.Native.Nat.{ℕ, _+_, _≤_, _<_}
+use native.Mathlib.Omega.{arith}
+use lib.IntN.{ℤ, pos, natAbs, negℤ, _+ℤ_, _-ℤ_, -ℤ-+ℤ-cancel, negℤ-+ℤ, negℤ-negℤ, +ℤ-comm}
+use lib.ListN.{getD}
+use Rattle.numbers.specs.Abs.{abs-add, abs-neg}
+use Rattle.numbers.specs.Within.{Within}
+use Rattle.vectors.specs.Agree.{agreeing, agreeing-near}
+use Rattle.votes.specs.Counting.{number}
+use Rattle.votes.specs.CountingLaws.{number-none}
+use Rattle.votes.specs.Votes.{other}
+use Rattle.votes.specs.Progress.{agreesWith}
+use Rattle.votes.specs.Near.{placeOf, Marks, AllMarked}
+
+-- the size of a number is at most that of another and of their difference
+apart : (p q : ℤ) → natAbs q ≤ natAbs (q -ℤ p) + natAbs p
+apart p q = omega (arith, abs-add (q -ℤ p) p, ap natAbs (-ℤ-+ℤ-cancel q p))
+
+turned : (p q : ℤ) → natAbs (p -ℤ q) ≡ natAbs (q -ℤ p)
+turned p q =
+    sym (abs-neg (p -ℤ q))
+    ∙ ap natAbs (negℤ-+ℤ p (negℤ q) ∙ ap (λ (z : ℤ). negℤ p +ℤ z) (negℤ-negℤ q) ∙ +ℤ-comm (negℤ p) q)
+
+pub near-size : (p q : ℤ) (t : ℕ) → agreeing q p t ≡ true → (natAbs q ≤ natAbs p + t) × (natAbs p ≤ natAbs q + t)
+near-size p q t e =
+    let d = agreeing-near q p t e in
+    (omega (arith, apart p q), omega (arith, apart q p, turned p q))
+
+-- a table in which more is marked
+pub marks-more : (a b : List ℕ) (t : ℕ) (q : ℤ) → ((k : ℕ) → getD a k 0 ≡ 1 → getD b k 0 ≡ 1) → Marks a t q → Marks b t q
+marks-more a b t q f m = record { marked = λ p h e. f (placeOf p) (m .marked p h e) }
+
+-- where the place is not marked, nothing agrees
+pub none-near : (near : List ℕ) (products : List ℤ) (count i : ℕ) (p : ℤ) (t : ℕ) → AllMarked near products count t → Within 3000000000000000000 p → getD near (placeOf p) 0 ≡ 0
+    → number count (agreesWith products i p t) ≡ 0
+none-near near products count i p t all h z = number-none count (agreesWith products i p t) (λ j l. go j l (agreeing (getD products j (pos 0)) p t) refl)
+  where
+    none : {n : ℕ} → n ≡ 0 → n ≡ 1 → ⊥
+    none a b = omega arith
+
+    go : (j : ℕ) → j < count → (b : Bool) → agreeing (getD products j (pos 0)) p t ≡ b → agreesWith products i p t j ≡ false
+    go j l true e = absurd (none z (all .each j l .marked p h e))
+    go j l false e = rw e (and-false (other j i))
