@@ -19,15 +19,15 @@ use Rattle.attitude.specs.Entries.{productOf}
 abbrev pub beyond : Vec3 → Bool
 beyond v = ltb 1000000000 (largestOf v)
 
--- refusal 8: "for the attitude asked for by itself, a component of its four vectors beyond ±10^9"
+-- refusal 8: some component of the four vectors is larger than 10^9 in size
 abbrev pub outOfRange : Vec3 → Vec3 → Vec3 → Vec3 → Bool
 outOfRange v1 v2 w1 w2 = beyond v1 || beyond v2 || (beyond w1 || beyond w2)
 
--- "If the largest magnitude in c is below 2^30: refusal 14."
+-- the cross product of a side has no magnitude of 2^30 or more
 abbrev pub tooClose : Vec3 → Vec3 → Bool
 tooClose v w = ltb (largestOf (crossOf v w)) (2 ^ 30)
 
--- refusal 14: "the two stars too close, on either side"
+-- refusal 14: so it is on the camera's side or on the catalogue's
 abbrev pub eitherClose : Vec3 → Vec3 → Vec3 → Vec3 → Bool
 eitherClose v1 v2 w1 w2 = tooClose v1 v2 || tooClose w1 w2
 

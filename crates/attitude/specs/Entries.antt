@@ -1,4 +1,5 @@
--- "The entry in row r, column s is (t1[r] t1'[s] + t2[r] t2'[s] + t3[r] t3'[s]) / 10^9, primes for the catalogue side." Assumes nothing.
+-- The matrix: row r and column s have the sum over the three axes of component r on the camera's side times component s on the catalogue's, over 10^9.
+-- Assumes nothing.
 use lib.IntN.{ℤ, pos, _+ℤ_, _*ℤ_}
 use lib.Signed.{quotZ}
 use Rattle.vectors.specs.declared.Vec3.{Vec3}

@@ -1,4 +1,4 @@
--- "Divide c by the smallest power of two that brings every magnitude below 2^30." Assumes nothing.
+-- The cross product c made smaller: over the least power of two that leaves no magnitude of 2^30 or more. Assumes nothing.
 use mathlib.Core.Bool.{cond}
 use Prim.Native.Nat.{ℕ, zero, suc, _+_, _/_, _^_, max}
 use lib.Dec.{ltb}

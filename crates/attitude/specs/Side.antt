@@ -1,4 +1,5 @@
--- One side: "t1 = v1 .. n is the root of the sum of the squares of d; t2 = 10^9 x d / n. t3 = (t1 x t2) / 10^9." Assumes nothing.
+-- One side of TRIAD, from two vectors: t1 is the first; t2 is 10^9 times the direction of their cross product; t3 is the cross product of t1 and t2 over 10^9.
+-- Assumes nothing.
 use Prim.Native.Nat.{ℕ, _+_, _*_}
 use lib.IntN.{ℤ, pos, natAbs, _*ℤ_}
 use lib.Signed.{quotZ}

@@ -1,4 +1,5 @@
--- The catalogue's format: "records of 16 bytes, no header: identity (unsigned, 4 bytes), then x, y, z (signed, 4 bytes each), high byte first".
+-- The catalogue's format: a record has four words of 4 bytes, high byte first: the identity, which has no sign, and x, y and z, which have one. Nothing
+-- stands before the first record.
 -- Assumes nothing.
 use mathlib.Core.Bool.{cond}
 use mathlib.Core.List.{List}

@@ -1,4 +1,5 @@
--- The rule of a record: "identities rise strictly; each component lies within ±10^9; x² + y² + z² differs from 10^18 by at most 4 x 10^9".
+-- The rule of a record: its identity is above that of the record before, no component is larger than 10^9 in size, and the sum of their squares is at
+-- most 4 x 10^9 away from 10^18.
 -- Assumes nothing.
 use mathlib.Core.Bool.{Bool, true, _&&_}
 use mathlib.Core.List.{List}

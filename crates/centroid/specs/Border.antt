@@ -15,7 +15,7 @@ use Rattle.centroid.specs.Sums.{sum-below}
 abbrev pub spot : ℕ → ℕ → List ℕ
 spot i j = i ∷ j ∷ []
 
--- "their 24 offsets are kept as a fixed table"
+-- the fixed table of the border's 24 offsets
 unfoldable pub border : List (List ℕ)
 border =
     spot 0 0 ∷ spot 0 1 ∷ spot 0 2 ∷ spot 0 3 ∷ spot 0 4 ∷ spot 0 5 ∷ spot 0 6
@@ -32,7 +32,7 @@ borderColumn k = getD (getD border k []) 1 0
 abbrev pub onRing : ℕ → ℕ → Bool
 onRing i j = eqb i 0 || (eqb i 6 || (eqb j 0 || eqb j 6))
 
--- "S is the sum of the border", of the window about row, column
+-- S, the border's sum, of the window about row, column
 unfoldable pub borderSum : List ℕ → ℕ → ℕ → ℕ → ℕ
 borderSum samples width row column =
     sum-below 7 (λ i. sum-below 7 (λ j. cond (onRing i j) (at samples width (row - 3 + i) (column - 3 + j)) 0))

@@ -8,11 +8,11 @@ use Rattle.centroid.specs.Sums.{sum-below, sumℤ-below}
 use Rattle.centroid.specs.Border.{borderSum}
 use Rattle.centroid.specs.declared.Centroid.{Centroid}
 
--- "24 x sample - S, or 0 where that is negative", as ℕ's minus has it. The 25 inner pixels have places 0 to 4 along each side
+-- the weight of an inner pixel, as ℕ's minus has it: nothing where the border outweighs it. The 25 inner pixels have places 0 to 4 along each side
 abbrev pub weight : List ℕ → ℕ → ℕ → ℕ → ℕ → ℕ → ℕ
 weight samples width row column i j = 24 * at samples width (row - 2 + i) (column - 2 + j) - borderSum samples width row column
 
--- "Brightness B is the sum of weights"
+-- the brightness B: all weights together
 unfoldable pub brightness : List ℕ → ℕ → ℕ → ℕ → ℕ
 brightness samples width row column = sum-below 5 (λ i. sum-below 5 (λ j. weight samples width row column i j))
 
@@ -20,14 +20,14 @@ brightness samples width row column = sum-below 5 (λ i. sum-below 5 (λ j. weig
 abbrev pub offset : ℕ → ℤ
 offset j = pos j -ℤ pos 2
 
--- "sum of weight x offset", by columns and by rows
+-- each weight times its offset, summed by columns and by rows
 unfoldable pub shiftX : List ℕ → ℕ → ℕ → ℕ → ℤ
 shiftX samples width row column = sumℤ-below 5 (λ i. sumℤ-below 5 (λ j. pos (weight samples width row column i j) *ℤ offset j))
 
 unfoldable pub shiftY : List ℕ → ℕ → ℕ → ℕ → ℤ
 shiftY samples width row column = sumℤ-below 5 (λ i. sumℤ-below 5 (λ j. pos (weight samples width row column i j) *ℤ offset i))
 
--- "256 x column + (256 x sum of weight x offset) / B": the quotient toward zero, the fraction with its sign
+-- the pixel's own place and a fraction, in 1/256 pixel: the quotient toward zero, the fraction with its sign
 abbrev pub along : ℕ → ℤ → ℕ → ℤ
 along base shift b = pos (256 * base) +ℤ quotZ (pos 256 *ℤ shift) (pos b)
 

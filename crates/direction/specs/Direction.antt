@@ -12,7 +12,7 @@ use Rattle.direction.specs.Position.{towardOf}
 unfoldable pub refusalsOf : ℤ → ℤ → ℤ → ℤ → ℤ → List Row
 refusalsOf cx cy f x y = row (not (settingsOk cx cy f && positionOk x y)) settings ∷ []
 
--- "X = x - cx, Y = y - cy"
+-- X and Y are the position as seen from the centre
 unfoldable pub directionOf : ℤ → ℤ → ℤ → ℤ → ℤ → Direction
 directionOf cx cy f x y = answered Refused (Found (towardOf (x -ℤ cx) (y -ℤ cy) f)) (lowest (refusalsOf cx cy f x y))
 

@@ -1,4 +1,4 @@
--- The rule of a direction list: "a list of 32-bit signed numbers, three each, at most 8 directions, components within ±10^9". Assumes nothing.
+-- The rule of a direction list: three numbers for each of no more than 8 directions, none larger than 10^9 in size. Assumes nothing.
 use mathlib.Core.Bool.{Bool, true, _&&_}
 use mathlib.Core.List.{List, [], _∷_}
 use Prim.Native.Nat.{ℕ, _%_}

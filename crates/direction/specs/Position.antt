@@ -1,4 +1,4 @@
--- "N is the root of 65,536 x (X² + Y² + F²). The direction is (256 x 10^9 x X / N, the same with Y, the same with F)", each quotient toward zero.
+-- The direction of a position X, Y from the centre: with N the root of 65,536 (X² + Y² + F²), each of X, Y and F times 256 x 10^9 over N, toward zero.
 -- Assumes nothing.
 use Prim.Native.Nat.{ℕ, _+_, _*_}
 use lib.IntN.{ℤ, pos, natAbs, _*ℤ_}

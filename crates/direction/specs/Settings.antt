@@ -1,5 +1,5 @@
--- The ranges of the settings: "centre cx, cy, each 0 to 261,888, and focal length F, 16,384 to 4,194,304", and of "a position handed in whose x or
--- y is not 0 to 261,888". Assumes nothing.
+-- The ranges of the settings: 0 to 261,888 for the centre's two numbers, 16,384 to 4,194,304 for the focal length; and of a position, 0 to 261,888 for both
+-- its numbers. Assumes nothing.
 use mathlib.Core.Bool.{Bool, _&&_}
 use lib.IntN.{ℤ, pos}
 use lib.Signed.{leZ}

@@ -1,4 +1,4 @@
--- The frame file: "2 bytes a sample, high byte first", of exactly width x height samples and at most 32,000. Assumes nothing.
+-- The frame file: a sample has 2 bytes, high byte first; there are exactly width x height, and no more than 32,000. Assumes nothing.
 use mathlib.Core.Bool.{Bool, true, false, cond, _&&_, and-eq-true-iff}
 use mathlib.Core.List.{List, [], _∷_, _++_}
 use mathlib.Core.Path.{_≡_, refl}

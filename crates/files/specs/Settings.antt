@@ -1,5 +1,5 @@
--- The settings file: "32 bytes, high byte first: width, height, threshold, needed as 2 bytes each; cx, cy, F as 4; four spare bytes, not looked at;
--- T as 8; all unsigned". Another length is refused with 1. Assumes nothing.
+-- The settings file has 32 bytes, and its numbers have no sign and their high byte first: four of 2 bytes, three of 4, then 4 bytes that nothing reads, and the
+-- tolerance of 8. Another length is refused with 1. Assumes nothing.
 use mathlib.Core.Bool.{cond}
 use mathlib.Core.List.{List}
 use Prim.Native.Nat.{ℕ}

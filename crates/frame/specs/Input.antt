@@ -10,15 +10,15 @@ use Rattle.refusal.specs.Table.{Row, row, rowAt}
 abbrev pub within : ℕ → ℕ → ℕ → Bool
 within least most x = leb least x && leb x most
 
--- "width or height out of range": each is 7 to 1,024
+-- a side of the frame is not 7 to 1,024
 abbrev pub sizeOut : ℕ → ℕ → Bool
 sizeOut width height = not (within 7 1024 width) || not (within 7 1024 height)
 
--- "samples lent are not width x height"
+-- there is not a sample for each pixel
 abbrev pub lengthOut : List ℕ → ℕ → ℕ → Bool
 lengthOut samples width height = not (eqb (length samples) (width * height))
 
--- "threshold out of range": it is 1 to 4,095
+-- the threshold is not 1 to 4,095
 abbrev pub thresholdOut : ℕ → Bool
 thresholdOut threshold = not (within 1 4095 threshold)
 
@@ -27,11 +27,11 @@ unfoldable pub firstOver : List ℕ → ℕ
 firstOver [] = 0
 firstOver (x ∷ xs) = cond (ltb 4095 x) 0 (suc (firstOver xs))
 
--- "a sample above 4,095": there is a first one
+-- some sample is above 4,095: there is a first one
 abbrev pub sampleOut : List ℕ → Bool
 sampleOut samples = ltb (firstOver samples) (length samples)
 
--- "the pixel asked for is outside the frame"
+-- no pixel of the frame has that row and column
 abbrev pub pixelOut : ℕ → ℕ → ℕ → ℕ → Bool
 pixelOut width height r c = leb height r || leb width c
 

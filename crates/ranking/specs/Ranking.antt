@@ -6,7 +6,7 @@ use Rattle.sorting.specs.Order.{ordered}
 use Rattle.votes.specs.Votes.{triples, votesOf}
 use Rattle.ranking.specs.Row.{every}
 
--- "Our vote's row: falling votes, equal ones by rising record number."
+-- a direction's row: the star with most votes first, and the lower record number first among equal ones
 unfoldable pub rowOf : List ℤ → List ℤ → ℕ → ℕ → List ℕ
 rowOf directions stars tolerance i = ordered every (votesOf directions stars tolerance i) (triples stars)
 
@@ -15,6 +15,6 @@ unfoldable pub rowsOf : List ℤ → List ℤ → ℕ → ℕ → List ℕ
 rowsOf directions stars tolerance zero = []
 rowsOf directions stars tolerance (suc n) = rowsOf directions stars tolerance n ++ rowOf directions stars tolerance n
 
--- "A ranking has one row a direction, each a list of record numbers from 0."
+-- the rows of all directions, in list order
 unfoldable pub rankingOf : List ℤ → List ℤ → ℕ → List ℕ
 rankingOf directions stars tolerance = rowsOf directions stars tolerance (triples directions)

@@ -11,11 +11,11 @@ use Rattle.direction.specs.ListLaws.{directionsIn}
 use Rattle.catalogue.specs.Format.{recordsIn}
 use Rattle.catalogue.specs.Check as catalogue
 
--- "Tolerance T: 0 to 10^16."
+-- the largest tolerance is 10^16
 abbrev pub toleranceOk : ℕ → Bool
 toleranceOk tolerance = leb tolerance 10000000000000000
 
--- "Ranking room: directions x stars words"; a longer one serves too
+-- the room has a word for each direction and star; a longer one serves too
 abbrev pub roomShort : ℕ → ℕ → ℕ → Bool
 roomShort count stars words = ltb words (count * stars)
 

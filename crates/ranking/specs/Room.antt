@@ -15,7 +15,7 @@ use Rattle.ranking.specs.Refusals.{refusalsOf}
 unfoldable pub rankOutcomeOf : List ℤ → List ℕ → ℕ → List ℕ → Outcome
 rankOutcomeOf directions bytes tolerance room = lowest (refusalsOf directions bytes tolerance (length room))
 
--- "The first directions x stars words are written, the rest stay"; a refusal leaves the room as found
+-- the ranking at the front and the other words as they were; a refusal changes no word
 unfoldable pub roomAfter : List ℤ → List ℕ → ℕ → List ℕ → List ℕ
 roomAfter directions bytes tolerance room =
     answered (λ _. room) (rankingOf directions (starsOf bytes) tolerance ++ drop (directionsIn directions * recordsIn bytes) room)

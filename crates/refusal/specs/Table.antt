@@ -1,4 +1,4 @@
--- A call's refusals: "the lowest number that applies to a call is given". A call lists its rows in rising number. Assumes nothing.
+-- A call's refusals: of the numbers that apply, the lowest is given. A call lists its rows in rising number. Assumes nothing.
 use mathlib.Core.Bool.{Bool, true, false, cond}
 use mathlib.Core.Path.{_≡_}
 use mathlib.Core.List.{List, [], _∷_}

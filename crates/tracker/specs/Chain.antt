@@ -1,5 +1,4 @@
--- The whole chain: "the frame's list, a direction for every listed position in list order, their votes and our vote's ranking, the search over that
--- ranking, and the attitude from its answer. Each step takes exactly what the one before gave, up to the first refusal." Assumes nothing.
+-- The whole chain: list, directions, ranking, search and attitude, each step made of the answer of the one before it, until one refuses. Assumes nothing.
 use mathlib.Core.Bool.{Bool, not}
 use mathlib.Core.List.{List, [], _∷_, _++_}
 use Prim.Native.Nat.{ℕ, _*_}
@@ -87,7 +86,7 @@ listed c = listingOf (c .samples) (c .settings .width) (c .settings .height) (c 
 unfoldable pub settingsRows : Settings → List Row
 settingsRows s = row (not (settingsOk (s .cx) (s .cy) (s .focal))) number.settings ∷ []
 
--- "4,096 for the whole chain"
+-- the chain asks for room for any ranking, 4,096 words
 unfoldable pub demandRows : Settings → ℕ → ℕ → List Row
 demandRows s words count =
     row (not (demandOk (s .needed) (s .tolerance))) number.demand
@@ -105,7 +104,7 @@ refusalsOf c =
 unfoldable pub trackedOf : Call → Tracked
 trackedOf c = answered refusedWith (locatedOf (listed c .report) (c .catalogue) (c .settings)) (lowest (refusalsOf c))
 
--- "Refusals 1 to 12 leave all lent memory as found; in the chain 13 and 14 leave the ranking written."
+-- one of 1 to 12 leaves the room untouched; from there on the ranking stands in it, also where 13 or 14 is given
 unfoldable pub roomAfter : Call → List ℕ
 roomAfter c = answered (λ r. c .room) (rankedRoom (listed c .report) (c .catalogue) (c .settings) (c .room)) (lowest (refusalsOf c))
 

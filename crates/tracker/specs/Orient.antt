@@ -1,4 +1,4 @@
--- The attitude of an identification: "from the first two assigned directions v1, v2 and their stars". Directions and stars are lists in threes, and
+-- The attitude of an identification, by the first two of its directions that have a star. Directions and stars are lists in threes, and
 -- an assignment has a word for each direction: its star, or the number of stars for none. Assumes nothing.
 use mathlib.Core.Bool.{Bool, _&&_}
 use mathlib.Core.List.{List}

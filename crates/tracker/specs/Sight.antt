@@ -1,4 +1,4 @@
--- "A direction for every listed position in list order": three numbers each, one after the other. Assumes nothing.
+-- The directions of the listed positions, as they are listed: three numbers each, one after the other. Assumes nothing.
 use mathlib.Core.List.{List, [], _∷_}
 use Prim.Native.Nat.{ℕ, _≤_}
 use lib.IntN.{ℤ, pos}

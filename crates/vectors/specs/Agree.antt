@@ -1,4 +1,4 @@
--- "Two pairs agree when their dot products differ by at most T." Assumes nothing.
+-- Agreement of two pairs: their dot products lie no further apart than the tolerance. Assumes nothing.
 use mathlib.Core.Path.{_≡_}
 use mathlib.Core.Bool.{Bool, true}
 use Prim.Native.Nat.{ℕ, _≤_}

@@ -9,11 +9,11 @@ use Rattle.verdict.specs.declared.Kind.{Kind}
 use Rattle.verdict.specs.declared.Kind.the-variants.{Dark, Beaten, Edge, Flat, Measured}
 use Rattle.verdict.specs.declared.Verdict.{Verdict}
 
--- "its sample is below the threshold"
+-- the sample does not reach the threshold
 abbrev pub dark : List ℕ → ℕ → ℕ → ℕ → ℕ → Bool
 dark samples width threshold row column = ltb (at samples width row column) threshold
 
--- "fewer than 3 rows or columns lie between it and any side": left, right, top, bottom
+-- a side is less than 3 columns or rows beyond the pixel: left, right, top, bottom
 unfoldable pub edge : ℕ → ℕ → ℕ → ℕ → Bool
 edge width height row column =
     ltb column 3 || (ltb (width - 1 - column) 3 || (ltb row 3 || ltb (height - 1 - row) 3))
@@ -22,21 +22,21 @@ edge width height row column =
 unfoldable pub peak : List ℕ → ℕ → ℕ → ℕ → ℕ → ℕ → Bool
 peak samples width height threshold row column = not (dark samples width threshold row column) && not (beaten samples width height row column)
 
--- what a pixel is that is neither: "flat: its brightness is 0", and "measured, with its position and brightness"
+-- what a pixel is that is neither: at the edge; flat, without brightness; or measured
 unfoldable pub peakKind : List ℕ → ℕ → ℕ → ℕ → ℕ → Kind
 peakKind samples width height row column =
     cond (edge width height row column) Edge
     (cond (eqb (brightness samples width row column) 0) Flat
     (Measured (centroidOf samples width row column)))
 
--- "the first of these that applies"
+-- the tests in document 01's order
 unfoldable pub kindOf : List ℕ → ℕ → ℕ → ℕ → ℕ → ℕ → Kind
 kindOf samples width height threshold row column =
     cond (dark samples width threshold row column) Dark
     (cond (beaten samples width height row column) Beaten
     (peakKind samples width height row column))
 
--- "one record of row, column and kind"
+-- the pixel's row and column with its kind
 abbrev pub verdictOf : List ℕ → ℕ → ℕ → ℕ → ℕ → ℕ → Verdict
 verdictOf samples width height threshold row column =
     record { row = row; column = column; kind = kindOf samples width height threshold row column }

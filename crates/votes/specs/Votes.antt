@@ -22,12 +22,12 @@ pub record Listed (most : ℕ) (list : List ℤ) : Type 0 where
 abbrev pub other : ℕ → ℕ → Bool
 other k n = not (eqb k n)
 
--- "j other than i and b other than a for which the pair i, j agrees with the pair a, b"
+-- (j, b) is a vote of star a for direction i: another direction and another star, whose pairs with i and a agree
 abbrev pub isVote : List ℤ → List ℤ → ℕ → ℕ → ℕ → ℕ → ℕ → Bool
 isVote directions stars tolerance i a j b =
     other j i && (other b a && agreeing (pairDot directions i j) (pairDot stars a b) tolerance)
 
--- "the votes of star a for direction i: the number of (j, b)" that are such
+-- the votes of star a for direction i: how many such (j, b) there are
 unfoldable pub votesOf : List ℤ → List ℤ → ℕ → ℕ → ℕ → ℕ
 votesOf directions stars tolerance i a = pairs (triples directions) (triples stars) (isVote directions stars tolerance i a)
 
@@ -36,7 +36,7 @@ unfoldable pub firsts : ℕ → (ℕ → ℕ) → List ℕ
 firsts zero f = []
 firsts (suc n) f = firsts n f ++ (f n ∷ [])
 
--- "votes for one direction are collected in 512 counters that start at zero": counters beyond the stars stay there
+-- the 512 counters of a direction: the votes of each star, and 0 where there is no star
 unfoldable pub countersOf : List ℤ → List ℤ → ℕ → ℕ → List ℕ
 countersOf directions stars tolerance i =
     firsts 512 (λ a. cond (ltb a (triples stars)) (votesOf directions stars tolerance i a) 0)

@@ -10,7 +10,7 @@ unfoldable pub some-below : ℕ → (ℕ → Bool) → Bool
 some-below zero p = false
 some-below (suc n) p = cond (p n) true (some-below n p)
 
--- "row by row from the top left": the sample in that row and column
+-- the sample in that row and column: rows follow each other from the top, and columns from the left
 abbrev pub at : List ℕ → ℕ → ℕ → ℕ → ℕ
 at samples width row column = getD samples (row * width + column) 0
 
@@ -18,7 +18,7 @@ at samples width row column = getD samples (row * width + column) 0
 abbrev pub near : ℕ → ℕ → Bool
 near a b = leb a (b + 3) && leb b (a + 3)
 
--- "first in row order": the pixel at r, c stands in a row above, or in the same row and further left
+-- the pixel at r, c stands in a row above, or in the same row and further left
 unfoldable pub earlier : ℕ → ℕ → ℕ → ℕ → Bool
 earlier row column r c = cond (ltb r row) true (cond (ltb row r) false (ltb c column))
 
@@ -27,7 +27,7 @@ unfoldable pub beats : List ℕ → ℕ → ℕ → ℕ → ℕ → ℕ → Bool
 beats samples width row column r c =
     cond (earlier row column r c) (leb (at samples width row column) (at samples width r c)) (ltb (at samples width row column) (at samples width r c))
 
--- "every pixel at most 3 rows and 3 columns away, cut to the frame": some pixel of it beats the one at row, column
+-- some pixel of the frame, no more than 3 rows and 3 columns off, beats the one at row, column
 unfoldable pub beaten : List ℕ → ℕ → ℕ → ℕ → ℕ → Bool
 beaten samples width height row column =
     some-below height (λ r. some-below width (λ c. (near row r && near column c) && beats samples width row column r c))
