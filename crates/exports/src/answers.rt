@@ -65,7 +65,7 @@ fn of_judged(verdict: Verdict) -> [i64; 64]
     put_star(flat, 5, centroid_in(kind))
 }
 
-pub fn of_verdict(judgement: Judgement) -> [i64; 64]
+pub(crate) fn of_verdict(judgement: Judgement) -> [i64; 64]
     ensures { λ r. ⌜ r ≡ verdictNumbers judgement ⌝ }
 {
     match judgement {
@@ -87,7 +87,7 @@ fn of_report(report: Report) -> [i64; 64]
     put_stars(flat, stars)
 }
 
-pub fn of_listing(listing: Listing) -> [i64; 64]
+pub(crate) fn of_listing(listing: Listing) -> [i64; 64]
     ensures { λ r. ⌜ r ≡ listingNumbers listing ⌝ }
 {
     let outcome = listing.outcome;
@@ -95,7 +95,7 @@ pub fn of_listing(listing: Listing) -> [i64; 64]
     of_outcome(outcome, of_report(report))
 }
 
-pub fn of_direction(direction: Direction) -> [i64; 64]
+pub(crate) fn of_direction(direction: Direction) -> [i64; 64]
     ensures { λ r. ⌜ r ≡ directionNumbers direction ⌝ }
 {
     match direction {
@@ -104,7 +104,7 @@ pub fn of_direction(direction: Direction) -> [i64; 64]
     }
 }
 
-pub fn of_catalogue(checked: Checked) -> [i64; 64]
+pub(crate) fn of_catalogue(checked: Checked) -> [i64; 64]
     ensures { λ r. ⌜ r ≡ catalogueNumbers checked ⌝ }
 {
     match checked {
@@ -113,13 +113,17 @@ pub fn of_catalogue(checked: Checked) -> [i64; 64]
     }
 }
 
-pub fn of_ranking(outcome: Outcome) -> [i64; 64]
+pub(crate) fn of_ranking(outcome: Outcome) -> [i64; 64]
     ensures { λ r. ⌜ r ≡ rankingNumbers outcome ⌝ }
 {
     of_outcome(outcome, [0i64; 64])
 }
 
-pub fn of_search(identification: Identification, directions: usize, stars: usize) -> [i64; 64]
+pub(crate) fn of_search(
+    identification: Identification,
+    directions: usize,
+    stars: usize,
+) -> [i64; 64]
     ensures { λ r. ⌜ r ≡ searchNumbers directions stars identification ⌝ }
 {
     let outcome = identification.outcome;
@@ -128,7 +132,7 @@ pub fn of_search(identification: Identification, directions: usize, stars: usize
     of_outcome(outcome, named)
 }
 
-pub fn of_attitude(attitude: Attitude) -> [i64; 64]
+pub(crate) fn of_attitude(attitude: Attitude) -> [i64; 64]
     ensures { λ r. ⌜ r ≡ attitudeNumbers attitude ⌝ }
 {
     match attitude {
@@ -137,7 +141,7 @@ pub fn of_attitude(attitude: Attitude) -> [i64; 64]
     }
 }
 
-pub fn of_chain(tracked: Tracked, stars: usize) -> [i64; 64]
+pub(crate) fn of_chain(tracked: Tracked, stars: usize) -> [i64; 64]
     ensures { λ r. ⌜ r ≡ chainNumbers stars tracked ⌝ }
 {
     let outcome = tracked.outcome;

@@ -23,7 +23,7 @@ pub fn signed(word: u64) -> i64
 }
 
 // A refusal: its number and its place.
-pub fn of_refusal(refusal: Refusal) -> [i64; 64]
+pub(crate) fn of_refusal(refusal: Refusal) -> [i64; 64]
     ensures { λ r. ⌜ r ≡ refusedNumbers refusal ⌝ }
 {
     let mut flat = [0i64; 64];
@@ -33,7 +33,7 @@ pub fn of_refusal(refusal: Refusal) -> [i64; 64]
 }
 
 // The numbers of a call that is accepted, or those of its refusal.
-pub fn of_outcome(outcome: Outcome, accepted: [i64; 64]) -> [i64; 64]
+pub(crate) fn of_outcome(outcome: Outcome, accepted: [i64; 64]) -> [i64; 64]
     ensures { λ r. ⌜ r ≡ outcomeNumbers outcome accepted ⌝ }
 {
     match outcome {
@@ -42,7 +42,7 @@ pub fn of_outcome(outcome: Outcome, accepted: [i64; 64]) -> [i64; 64]
     }
 }
 
-pub fn of_count(n: usize) -> [i64; 64]
+pub(crate) fn of_count(n: usize) -> [i64; 64]
     ensures { λ r. ⌜ r ≡ acceptedNumbers (signedOf n ∷ []) ⌝ }
 {
     let mut flat = [0i64; 64];
@@ -51,7 +51,7 @@ pub fn of_count(n: usize) -> [i64; 64]
 }
 
 // A vector's numbers from a place on.
-pub fn put_vector(flat: [i64; 64], at: usize, v: Vec3) -> [i64; 64]
+pub(crate) fn put_vector(flat: [i64; 64], at: usize, v: Vec3) -> [i64; 64]
     requires { ⌜ at ≤ 61 ⌝ }
     ensures { λ r. ⌜ r ≡ withVector flat at v ⌝ }
 {
@@ -65,14 +65,14 @@ pub fn put_vector(flat: [i64; 64], at: usize, v: Vec3) -> [i64; 64]
     put
 }
 
-pub fn of_vector(v: Vec3) -> [i64; 64]
+pub(crate) fn of_vector(v: Vec3) -> [i64; 64]
     ensures { λ r. ⌜ r ≡ acceptedNumbers (vectorNumbers v) ⌝ }
 {
     put_vector([0i64; 64], 2, v)
 }
 
 // A matrix's numbers from a place on, row by row.
-pub fn put_matrix(flat: [i64; 64], at: usize, matrix: Matrix) -> [i64; 64]
+pub(crate) fn put_matrix(flat: [i64; 64], at: usize, matrix: Matrix) -> [i64; 64]
     requires { ⌜ at ≤ 55 ⌝ }
     ensures { λ r. ⌜ r ≡ withMatrix flat at matrix ⌝ }
 {
@@ -81,14 +81,14 @@ pub fn put_matrix(flat: [i64; 64], at: usize, matrix: Matrix) -> [i64; 64]
     put_vector(second, at + 6, matrix.row2)
 }
 
-pub fn of_matrix(matrix: Matrix) -> [i64; 64]
+pub(crate) fn of_matrix(matrix: Matrix) -> [i64; 64]
     ensures { λ r. ⌜ r ≡ acceptedNumbers (matrixNumbers matrix) ⌝ }
 {
     put_matrix([0i64; 64], 2, matrix)
 }
 
 // A star's position and brightness from a place on.
-pub fn put_star(flat: [i64; 64], at: usize, star: Centroid) -> [i64; 64]
+pub(crate) fn put_star(flat: [i64; 64], at: usize, star: Centroid) -> [i64; 64]
     requires { ⌜ at ≤ 61 ⌝ }
     ensures { λ r. ⌜ r ≡ withStar flat at star ⌝ }
 {
@@ -100,7 +100,7 @@ pub fn put_star(flat: [i64; 64], at: usize, star: Centroid) -> [i64; 64]
 }
 
 // A frame's eight stars from place 6 on.
-pub fn put_stars(flat: [i64; 64], stars: [Centroid; 8]) -> [i64; 64]
+pub(crate) fn put_stars(flat: [i64; 64], stars: [Centroid; 8]) -> [i64; 64]
     ensures { λ r. ⌜ r ≡ withStars stars 8 flat ⌝ }
 {
     let mut put = flat;
@@ -130,7 +130,7 @@ fn name_at(words: [u16; 8], i: usize, directions: usize, stars: usize) -> i64
 }
 
 // The stars of eight directions from a place on.
-pub fn put_names(
+pub(crate) fn put_names(
     flat: [i64; 64],
     at: usize,
     words: [u16; 8],
