@@ -7,6 +7,7 @@ use Prim.Native.Nat.{ℕ, zero, suc, _+_, _*_, _≤_}
 use native.Mathlib.Omega.{arith}
 use native.Mathlib.Numerals.{add-one}
 use lib.Dec.{leb, eqb}
+use lib.ListN.{length, length-append}
 use Rattle.files.specs.Number.{numberAt}
 
 -- how many samples a file of this length holds: none where the length is another, or where there are too many
@@ -22,6 +23,11 @@ samplesOf bytes (suc n) = samplesOf bytes n ++ (numberAt bytes (2 * n) 2 ∷ [])
 pub samples-next : (bytes : List ℕ) (n : ℕ) → samplesOf bytes (n + 1) ≡ samplesOf bytes n ++ (numberAt bytes (2 * n) 2 ∷ [])
 unfolding samplesOf
 samples-next bytes n = rw add-one
+
+pub samples-length : (bytes : List ℕ) (n : ℕ) → length (samplesOf bytes n) ≡ n
+unfolding samplesOf
+samples-length bytes zero = refl
+samples-length bytes (suc n) = omega (arith, length-append (samplesOf bytes n) (numberAt bytes (2 * n) 2 ∷ []), samples-length bytes n)
 
 -- what is taken stands in the file, and fits the room
 counted : (p q : Bool) (len n : ℕ) → (p && eqb len (2 * n) && leb n 32000) ≡ q → (2 * cond q n 0 ≤ len) × (cond q n 0 ≤ 32000)

@@ -3,7 +3,8 @@ use refusal::Refusal;
 use tracker::Settings;
 ghost use mathlib.Core.Path.{_≡_};
 ghost use Prim.Native.Nat.{_+_, _^_, _≤_, _<_};
-ghost use lib.ListN.{length, take};
+ghost use lib.ListN.{length, drop};
+ghost use mathlib.Core.List.{_++_};
 ghost use Rattle.files.specs.Number.{numberAt};
 ghost use Rattle.files.specs.Settings.{readingOf};
 ghost use Rattle.files.specs.Samples.{sampleCount, samplesOf};
@@ -84,12 +85,12 @@ fn sample_count(len: usize, width: usize, height: usize) -> usize
     count
 }
 
-// Puts the samples of a frame file at the start of the room and answers how many there are. A file or a room of the wrong size gives none,
-// which the library refuses with 2 where the width and the height are in range.
+// Puts the samples of a frame file at the start of the room, leaves the rest of it as it is, and answers how many there are. A file of the wrong size
+// gives none, which the library refuses with 2 where the width and the height are in range.
 pub fn read_samples(bytes: &[u8], width: usize, height: usize, room: &mut [u16]) -> usize
     requires { ⌜ length (now room) ≡ 32000 ⌝ }
     ensures { λ r. ⌜ r ≡ sampleCount (length (now (bytes .entry))) width height ⌝ }
-    ensures { λ r. ⌜ take r (now (room .exit)) ≡ samplesOf (now (bytes .entry)) r ⌝ }
+    ensures { λ r. ⌜ now (room .exit) ≡ samplesOf (now (bytes .entry)) r ++ drop r (now (room .entry)) ⌝ }
     ensures { λ r. ⌜ (r ≤ 32000) × (length (now (room .exit)) ≡ 32000) ⌝ }
 {
     let count = sample_count(bytes.len(), width, height);

@@ -1,27 +1,37 @@
--- `files::read_samples` meets its contract. The invariant: the samples passed stand at the start of the room, which keeps its length. Assumes nothing.
+-- `files::read_samples` meets its contract. The invariant: the samples passed stand at the start of the room, and the rest is as it was. Assumes nothing.
 use borrow.Author.Needs.{needs}
 use mathlib.Core.Path.{_≡_, refl, sym, ap, _∙_}
 use mathlib.Core.List.{List, [], _∷_, _++_}
-use Prim.Native.Nat.{ℕ, _+_, _-_, _*_, _≤_, _<_}
+use Prim.Native.Nat.{ℕ, suc, _+_, _-_, _*_, _≤_, _<_}
 use native.Mathlib.Numerals.{add-one}
 use native.Mathlib.Omega.{arith}
-use lib.ListN.{length, take, set, length-set}
-use lib.Seq.{take-suc-set}
+use lib.ListN.{length, drop, set, getD, length-set}
+use lib.Seq.{drop-cons, set-at, append-snoc}
 use Rattle.files.specs.Number.{numberAt}
-use Rattle.files.specs.Samples.{sampleCount, samplesOf, samples-next, count-fits}
+use Rattle.files.specs.Samples.{sampleCount, samplesOf, samples-next, samples-length, count-fits}
 use Rattle.files.proofs.read_samples.Statement.{statement}
 use Rattle.files.proofs.read_samples.Tie as tie
 
 abbrev Inv-loop : tie.InvT-loop
 Inv-loop bytes width height room₀ count i₀ room i =
-    (i ≤ count) × (2 * count ≤ length bytes) × (count ≤ 32000) × (length room ≡ 32000) × (take i room ≡ samplesOf bytes i)
+    (i ≤ count)
+    × (2 * count ≤ length bytes)
+    × (count ≤ 32000)
+    × (length room ≡ 32000)
+    × (length room₀ ≡ 32000)
+    × (room ≡ samplesOf bytes i ++ drop i room₀)
 
 abbrev μ-loop : tie.MeasureT-loop
 μ-loop bytes width height room₀ count i₀ room i = count - i
 
 -- one sample more
-stored : (bytes room : List ℕ) (i x : ℕ) → i < length room → take i room ≡ samplesOf bytes i → x ≡ numberAt bytes (2 * i) 2 → take (i + 1) (set room i x) ≡ samplesOf bytes (i + 1)
-stored bytes room i x h e f = rw (samples-next bytes i, add-one, take-suc-set room i x, e, f)
+stored : (bytes room room₀ : List ℕ) (i x : ℕ) → i < length room₀ → room ≡ samplesOf bytes i ++ drop i room₀ → x ≡ numberAt bytes (2 * i) 2 → set room i x ≡ samplesOf bytes (i + 1) ++ drop (i + 1) room₀
+stored bytes room room₀ i x h e f =
+    rw (samples-next bytes i, add-one)
+    (ap (λ (l : List ℕ). set l i x) (e ∙ ap (λ (l : List ℕ). samplesOf bytes i ++ l) (drop-cons room₀ i 0 h))
+    ∙ set-at (samplesOf bytes i) (getD room₀ i 0) (drop (suc i) room₀) x i (samples-length bytes i)
+    ∙ ap (λ (y : ℕ). samplesOf bytes i ++ (y ∷ drop (suc i) room₀)) f
+    ∙ sym (append-snoc (samplesOf bytes i) (numberAt bytes (2 * i) 2) (drop (suc i) room₀)))
 
 sample-count-requires : tie.Need-sample-count-requires Inv-loop μ-loop
 sample-count-requires c κs = search needs
@@ -32,7 +42,7 @@ loop-holds c =
     let s = c .before .before .before in
     let f = count-fits (length (s .args .bytes .now)) (s .args .width) (s .args .height) in
     let e = c .sample-count .ensures in
-    (omega arith, omega (arith, f .0, e), omega (arith, f .1, e), s .pre, refl)
+    (omega arith, omega (arith, f .0, e), omega (arith, f .1, e), s .pre, s .pre, refl)
 
 mul-number : tie.Need-mul-number Inv-loop μ-loop
 mul-number c = omega arith
@@ -59,7 +69,7 @@ loop-again : tie.Need-loop-again Inv-loop μ-loop
 loop-again c =
     let l = c .before .before .loop in
     let v = l .inv in
-    (omega arith, v .1, v .2, simp length-set (v .3), stored _ (l .room) (l .i) _ (omega arith) (v .4) (c .number .ensures .0))
+    (omega arith, v .1, v .2, simp length-set (v .3), v .4, stored _ (l .room) _ (l .i) _ (omega (arith, v .4)) (v .5) (c .number .ensures .0))
 
 same-length : tie.Need-same-length Inv-loop μ-loop
 same-length c = omega arith
@@ -68,7 +78,7 @@ returns : tie.Need-returns Inv-loop μ-loop
 returns c =
     let l = c .before .loop in
     let e : l .i ≡ c .before .before .sample-count .result = omega arith in
-    (c .before .before .sample-count .ensures, (rw (← e) (l .inv .4), (l .inv .2, l .inv .3)))
+    (c .before .before .sample-count .ensures, (rw (← e) (l .inv .5), (l .inv .2, l .inv .3)))
 
 pub read-samples-spec : {M : Type 1} → statement M
 read-samples-spec =
