@@ -31,7 +31,8 @@ use Rattle.direction.specs.Position.{square, scaledOf, towardOf}
 use Rattle.direction.specs.PositionLaws.{norm-by}
 use Rattle.direction.specs.Direction.{directionOf}
 use Rattle.direction.specs.DirectionLaws.{in-range}
-use Rattle.catalogue.specs.Format.{wordAt, signedOf, identityOf, componentOf}
+use Rattle.words.specs.Number.{numberAt}
+use Rattle.catalogue.specs.Format.{signedOf, identityOf, componentOf}
 use Rattle.catalogue.specs.Rule.{directionOk, identityRises, recordOk}
 use Rattle.catalogue.specs.Check as catalogue
 use Rattle.catalogue.specs.Stars.{starsTo, starsOf}
@@ -72,7 +73,7 @@ beaten-kind Flat e = never e
 beaten-kind (Measured c) e = never e
 
 rest-beaten : (r c : ℕ) → r < side → c < side → ((r ≡ 0) × (c ≡ 0) → ⊥) → judgementOf even side side 4095 r c ≡ judgedAs r c Beaten
-unfolding Silent firstOver
+unfolding Silent firstOver first firstFrom
 rest-beaten r c p q other =
     let t = all-true side (first-or-beaten r) (all-true side (λ r. all side (first-or-beaten r)) all-beaten r p) c q in
     let inside = or-none (leb side r) (leb side c) (lt-leb side r p) (lt-leb side c q) in
@@ -112,7 +113,7 @@ only {directions} {bytes} {needed} {tolerance} {words} e = (e, λ r h. identifie
 
 -- A to F
 verdicts-hold : AllHold (drop 8 table) → AllHold table
-unfolding table lowest judgementOf firstOver kindOf peakKind edge beaten beats earlier some-below
+unfolding table lowest judgementOf firstOver first firstFrom kindOf peakKind edge beaten beats earlier some-below
     centroidOf brightness shiftX shiftY sum-below sumℤ-below borderSum
 verdicts-hold below = (refl, (refl, (refl, (refl, (refl, (refl, (refl, (rest-beaten, below))))))))
 
@@ -133,7 +134,7 @@ attitudes-hold below = (case-I, (case-J, (case-K, below)))
 searches-hold : AllHold (drop 13 table)
 unfolding table lowest identificationOf padTo refusals.refusalsOf refusals.rowsBeside refusals.demandOk lentOf clash first firstFrom some all
     listOk allWithin
-    catalogue.refusalsOf catalogue.lengthOk catalogue.brokenOf recordOk directionOk identityRises componentOf identityOf wordAt signedOf starsOf starsTo
+    catalogue.refusalsOf catalogue.lengthOk catalogue.brokenOf recordOk directionOk identityRises componentOf identityOf numberAt signedOf starsOf starsTo
     firstFit run row assigned standing pairs agreement agreeing pairDot tripleAt
 searches-hold = (only refl, (only refl, (only refl, (only refl, tt))))
 

@@ -9,6 +9,7 @@ use native.Mathlib.Nat.{lt-trans, not-suc-le-zero}
 use native.Mathlib.Omega.{arith}
 use borrow.Author.Tests.{not-true, not-false}
 use lib.ListN.{length}
+use Rattle.counting.specs.Contradiction.{contradiction}
 use Rattle.refusal.specs.declared.Outcome.{Outcome}
 use Rattle.refusal.specs.declared.Refusal.{Refusal}
 use Rattle.refusal.specs.declared.Outcome.the-variants.{Accepted}
@@ -22,12 +23,6 @@ use Rattle.catalogue.specs.Check.{lengthOk, brokenOf, refusalsOf, checke
 use Rattle.catalogue.specs.CheckSteps.{checked, wrong-length, one-broken, none-broken}
 use Rattle.catalogue.specs.Valid.{LengthRule, RecordRule, Valid, FirstBroken}
 use Rattle.catalogue.specs.RuleLaws.{ok-length, length-ok, ok-record, record-ok}
-
-zero-one : _≡_ {A = ℕ} 0 1 → ⊥
-zero-one z = omega arith
-
-false-true : {A : Type 0} {t : Bool} → t ≡ true → t ≡ false → A
-false-true {A} {t} e f = absurd (zero-one cc)
 
 -- ---- the first broken record
 
@@ -47,7 +42,7 @@ module _ (bytes : List ℕ) where
   first-broken h =
       record {
         inside = h;
-        breaks = λ r. false-true (record-ok bytes (brokenOf bytes) r) (not-true (recordOk bytes (brokenOf bytes)) (broken-is .taken h));
+        breaks = λ r. contradiction (sym (not-true (recordOk bytes (brokenOf bytes)) (broken-is .taken h)) ∙ record-ok bytes (brokenOf bytes) r);
         before = kept-before;
       }
 
@@ -105,7 +100,7 @@ way : (bytes : List ℕ) → Way bytes
 way bytes = go (lengthOk (length bytes)) refl (decLt (brokenOf bytes) (recordsIn bytes))
   where
     go : (t : Bool) → lengthOk (length bytes) ≡ t → Dec (brokenOf bytes < recordsIn bytes) → Way bytes
-    go false e d = length-wrong (λ s. false-true (length-ok bytes s) e) (wrong-length bytes e)
+    go false e d = length-wrong (λ s. contradiction (sym e ∙ length-ok bytes s)) (wrong-length bytes e)
     go true e (yes h) = record-wrong (ok-length bytes e) (first-broken bytes h) (one-broken bytes e h)
     go true e (no h) =
         let k : recordsIn bytes ≤ brokenOf bytes = omega arith in
@@ -121,7 +116,7 @@ apart : {A : Type 0} {o : Outcome} (n m p q : ℕ) → o ≡ refusalOf n p → o
 apart n m p q e f d = absurd (d (same n m p q e f .0))
 
 never : {A : Type 0} {o : Outcome} (n p : ℕ) → o ≡ refusalOf n p → o ≡ Accepted → A
-never n p e f = absurd (zero-one cc)
+never n p e f = contradiction (cc)
 
 module _ (bytes : List ℕ) where
   -- number 6
@@ -174,13 +169,13 @@ module _ (bytes : List ℕ) where
 
   answer : (o : Outcome) → lowest (refusalsOf bytes) ≡ o → (n : ℕ) → answered Refused (Records (recordsIn bytes)) o ≡ Records n → Valid bytes × (n ≡ recordsIn bytes)
   answer Accepted e n h = (accepted-valid e, cc)
-  answer (Outcome.Refused r) e n h = absurd (zero-one cc)
+  answer (Outcome.Refused r) e n h = contradiction (cc)
 
   pub checked-valid : (n : ℕ) → checkedOf bytes ≡ Records n → Valid bytes × (n ≡ recordsIn bytes)
   checked-valid n h = answer (lowest (refusalsOf bytes)) refl n (sym (checked bytes refl) ∙ h)
 
   refusal : (o : Outcome) → lowest (refusalsOf bytes) ≡ o → (r : Refusal) → answered Refused (Records (recordsIn bytes)) o ≡ Refused r → lowest (refusalsOf bytes) ≡ Outcome.Refused r
-  refusal Accepted e r h = absurd (zero-one cc)
+  refusal Accepted e r h = contradiction (cc)
   refusal (Outcome.Refused q) e r h = let d : q ≡ r = cc in e ∙ ap Outcome.Refused d
 
   pub checked-refused : (r : Refusal) → checkedOf bytes ≡ Refused r → lowest (refusalsOf bytes) ≡ Outcome.Refused r

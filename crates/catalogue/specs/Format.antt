@@ -6,7 +6,8 @@ use mathlib.Core.List.{List}
 use Prim.Native.Nat.{ℕ, _+_, _*_, _/_}
 use lib.Dec.{ltb}
 use lib.IntN.{ℤ, pos, _-ℤ_}
-use lib.ListN.{length, getD}
+use lib.ListN.{length}
+use Rattle.words.specs.Number.{numberAt}
 
 -- how many bytes a record has
 abbrev pub recordSize : ℕ
@@ -20,18 +21,14 @@ mostRecords = 512
 abbrev pub recordsIn : List ℕ → ℕ
 recordsIn bytes = length bytes / recordSize
 
--- the four bytes from a place on, high byte first
-unfoldable pub wordAt : List ℕ → ℕ → ℕ
-wordAt bytes at = 16777216 * getD bytes at 0 + 65536 * getD bytes (at + 1) 0 + 256 * getD bytes (at + 2) 0 + getD bytes (at + 3) 0
-
 -- a word read as a signed number: from 2^31 on it stands for the number that is 2^32 below it
 unfoldable pub signedOf : ℕ → ℤ
 signedOf w = cond (ltb w 2147483648) (pos w) (pos w -ℤ pos 4294967296)
 
 -- the identity of record i
 unfoldable pub identityOf : List ℕ → ℕ → ℕ
-identityOf bytes i = wordAt bytes (recordSize * i)
+identityOf bytes i = numberAt bytes (recordSize * i) 4
 
 -- its component 0, 1 or 2: x, y or z
 unfoldable pub componentOf : List ℕ → ℕ → ℕ → ℤ
-componentOf bytes i axis = signedOf (wordAt bytes (recordSize * i + (4 + 4 * axis)))
+componentOf bytes i axis = signedOf (numberAt bytes (recordSize * i + (4 + 4 * axis)) 4)

@@ -1,10 +1,9 @@
 -- What the direction of a position is: refusal 5 exactly where the settings or the position are out of range, else the direction, whose numbers
 -- are within ±10^9. Assumes nothing.
 use mathlib.Core.Bool.{Bool, true, false, not, _&&_, and-false}
-use mathlib.Core.Path.{_≡_, refl, sym, ap, subst}
-use Prim.Native.Nat.{ℕ}
-use native.Mathlib.Omega.{arith}
+use mathlib.Core.Path.{_≡_, refl, sym, ap, subst, _∙_}
 use lib.IntN.{ℤ, _-ℤ_}
+use Rattle.counting.specs.Contradiction.{contradiction}
 use Rattle.refusal.specs.declared.Refusal.{Refusal}
 use Rattle.refusal.specs.declared.Outcome.{Outcome}
 use Rattle.refusal.specs.Numbers.{settings}
@@ -50,18 +49,12 @@ module _ (cx cy f x y : ℤ) where
     wrong : (Settings cx cy f → Position x y → ⊥) → directionOf cx cy f x y ≡ outOfRange → Way
     right : Settings cx cy f → Position x y → directionOf cx cy f x y ≡ Found (towardOf (x -ℤ cx) (y -ℤ cy) f) → Way
 
-  zero-one : _≡_ {A = ℕ} 0 1 → ⊥
-  zero-one z = omega arith
-
-  false-true : {A : Type 0} {t : Bool} → t ≡ true → t ≡ false → A
-  false-true e g = absurd (zero-one cc)
-
   way : Way
   way = go (settingsOk cx cy f) (positionOk x y) refl refl
     where
       go : (a b : Bool) → settingsOk cx cy f ≡ a → positionOk x y ≡ b → Way
-      go false b e g = wrong (λ s p. false-true (settings-ok cx cy f s) e) (settings-out e)
-      go true false e g = wrong (λ s p. false-true (position-ok x y p) g) (position-out g)
+      go false b e g = wrong (λ s p. contradiction (sym e ∙ settings-ok cx cy f s)) (settings-out e)
+      go true false e g = wrong (λ s p. contradiction (sym g ∙ position-ok x y p)) (position-out g)
       go true true e g = right (ok-settings cx cy f e) (ok-position x y g) (in-range e g)
 
   pub refused : (Settings cx cy f → Position x y → ⊥) → directionOf cx cy f x y ≡ outOfRange
@@ -76,13 +69,13 @@ module _ (cx cy f x y : ℤ) where
     where
       go : Way → (Settings cx cy f → Position x y → ⊥) × (r ≡ record { number = settings; place = 0 })
       go (wrong n e) = (n, cc)
-      go (right s p e) = absurd (zero-one cc)
+      go (right s p e) = contradiction (cc)
 
   pub found-only : (v : Vec3) → directionOf cx cy f x y ≡ Found v → Settings cx cy f × Position x y × (v ≡ towardOf (x -ℤ cx) (y -ℤ cy) f)
   found-only v h = go way
     where
       go : Way → Settings cx cy f × Position x y × (v ≡ towardOf (x -ℤ cx) (y -ℤ cy) f)
-      go (wrong n e) = absurd (zero-one cc)
+      go (wrong n e) = contradiction (cc)
       go (right s p e) = (s, p, cc)
 
   pub found-within : (v : Vec3) → directionOf cx cy f x y ≡ Found v → Within3 1000000000 v

@@ -7,6 +7,7 @@ use borrow.Author.Tests.{leb-true, le-leb}
 use lib.Dec.{leb}
 use lib.IntN.{ℤ, pos, negsuc}
 use lib.Signed.{_<ℤ_}
+use Rattle.counting.specs.Contradiction.{contradiction}
 use Rattle.numbers.specs.Abs.{pos-positive}
 use Rattle.numbers.specs.Within.{Within}
 use Rattle.direction.specs.Settings.{between, placeOk, focalOk, settingsOk, positionOk}
@@ -30,16 +31,13 @@ pub record Position (x y : ℤ) : Type 0 where
 both : (a b : Bool) → a && b ≡ true → (a ≡ true) × (b ≡ true)
 both a b = and-eq-true-iff a b .0
 
-false-true : _≡_ {A = Bool} false true → ⊥
-false-true e = let z : _≡_ {A = ℕ} 0 1 = cc in omega arith
-
 module _ (low high : ℕ) where
   pub ok-between : (z : ℤ) → between (pos low) (pos high) z ≡ true → Between low high z
   unfolding between
   ok-between (pos n) e =
       let p = both (leb low n) (leb n high) e in
       record { at = n; is = refl; above = leb-true low n (p .0); below = leb-true n high (p .1) }
-  ok-between (negsuc n) e = absurd (false-true e)
+  ok-between (negsuc n) e = contradiction e
 
   pub between-ok : (z : ℤ) → Between low high z → between (pos low) (pos high) z ≡ true
   unfolding between

@@ -9,19 +9,21 @@ use native.Mathlib.Omega.{arith}
 use lib.ListN.{length, getD, replicate, length-map, List·getD-append, getD-replicate}
 use lib.Seq.{getD-take, getD-append-add}
 use borrow.Author.Tests.{eq-eqb}
+use Rattle.counting.specs.Contradiction.{contradiction}
+use Rattle.counting.specs.Number.{one, number}
 use Rattle.refusal.specs.Table.{refusalOf, lowest, answered}
 use Rattle.refusal.specs.Laws.{Silent, Given, given-refused, refused-given, silent-accepted}
 use Rattle.refusal.specs.declared.Outcome.{Outcome}
 use Rattle.refusal.specs.declared.Outcome.the-variants.{Accepted}
 use Rattle.sorting.specs.Order.{pick, put, ordered}
-use Rattle.sorting.specs.Laws.{put-length, count, one, each-once, none-beyond, InOrder, in-order}
+use Rattle.sorting.specs.Laws.{put-length, count, each-once, none-beyond, InOrder, in-order}
 use Rattle.centroid.specs.declared.Centroid.{Centroid}
 use Rattle.verdict.specs.Verdict.{verdictOf}
 use Rattle.verdict.specs.Laws.{measured-range}
 use Rattle.verdict.specs.declared.Kind.{Kind}
 use Rattle.verdict.specs.declared.Kind.the-variants.{Dark, Beaten, Edge, Flat, Measured}
 use Rattle.frame.specs.Input.{frameRows, pixelRows}
-use Rattle.frame.specs.Stars.{bright, nought, isMeasured, number, numberOf, kindAt, starAt, measuredPixels, measuredOf, reportOf, nothing}
+use Rattle.frame.specs.Stars.{bright, nought, isMeasured, numberOf, kindAt, starAt, measuredPixels, measuredOf, reportOf, nothing}
 use Rattle.frame.specs.StarsLaws.{star-is}
 use Rattle.frame.specs.Calls.{judgementOf, listingOf}
 use Rattle.frame.specs.declared.Judgement.the-variants.{Refused, Judged}
@@ -60,7 +62,7 @@ module _ (samples : List ℕ) (width height threshold row column : ℕ) where
   judge-refused-only n p e = refused-given (pixelRows samples width height threshold row column) n p (go (lowest (pixelRows samples width height threshold row column)) e)
     where
       go : (o : Outcome) → answered Refused (Judged (verdictOf samples width height threshold row column)) o ≡ Refused (record { number = n; place = p }) → o ≡ refusalOf n p
-      go Accepted e = let z : _≡_ {A = ℕ} 0 1 = cc in absurd (omega arith)
+      go Accepted e = contradiction (cc)
       go (Rattle.refusal.specs.declared.Outcome.the-variants.Refused r) e = cc
 
   pub judge-accepted : Silent (pixelRows samples width height threshold row column)
@@ -87,12 +89,12 @@ module _ (samples : List ℕ) (width height threshold m : ℕ) where
 
 -- ---- as many as there are measured pixels
 
-ordered-number : (test : ℕ → Bool) (key : ℕ → ℕ) (m : ℕ) → length (ordered test key m) ≡ number test m
+ordered-number : (test : ℕ → Bool) (key : ℕ → ℕ) (m : ℕ) → length (ordered test key m) ≡ number m test
 unfolding ordered number
 ordered-number test key zero = refl
 ordered-number test key (suc m) = go (ordered-number test key m) (test m)
   where
-    go : length (ordered test key m) ≡ number test m → (b : Bool) → length (pick b (put key m (ordered test key m)) (ordered test key m)) ≡ pick b 1 0 + number test m
+    go : length (ordered test key m) ≡ number m test → (b : Bool) → length (pick b (put key m (ordered test key m)) (ordered test key m)) ≡ number m test + one b
     go i true = put-length key m (ordered test key m) ∙ omega arith
     go i false = i ∙ omega arith
 
@@ -112,10 +114,10 @@ count-at (x ∷ xs) (suc j) h =
     omega arith
 
 measured-of : (v : Kind) → isMeasured v ≡ true → (c : Centroid) × (v ≡ Measured c)
-measured-of Dark e = let z : _≡_ {A = ℕ} 0 1 = cc in absurd (omega arith)
-measured-of Beaten e = let z : _≡_ {A = ℕ} 0 1 = cc in absurd (omega arith)
-measured-of Edge e = let z : _≡_ {A = ℕ} 0 1 = cc in absurd (omega arith)
-measured-of Flat e = let z : _≡_ {A = ℕ} 0 1 = cc in absurd (omega arith)
+measured-of Dark e = contradiction (cc)
+measured-of Beaten e = contradiction (cc)
+measured-of Edge e = contradiction (cc)
+measured-of Flat e = contradiction (cc)
 measured-of (Measured c) e = (c, refl)
 
 one-true : (b : Bool) → 1 ≤ one b → b ≡ true

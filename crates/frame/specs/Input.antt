@@ -1,9 +1,10 @@
 -- The refusals of a call on a frame: 1 to 4, and 15 where it names a pixel. Each row's condition is document 01's sentence. Assumes nothing.
-use mathlib.Core.Bool.{Bool, cond, not, _&&_, _||_}
+use mathlib.Core.Bool.{Bool, not, _&&_, _||_}
 use mathlib.Core.List.{List, [], _∷_, _++_}
-use Prim.Native.Nat.{ℕ, suc, _*_}
-use lib.ListN.{length}
+use Prim.Native.Nat.{ℕ, _*_}
+use lib.ListN.{length, getD}
 use lib.Dec.{ltb, leb, eqb}
+use Rattle.counting.specs.First.{first}
 use Rattle.refusal.specs.Numbers as numbers
 use Rattle.refusal.specs.Table.{Row, row, rowAt}
 
@@ -24,8 +25,7 @@ thresholdOut threshold = not (within 1 4095 threshold)
 
 -- the place of the first sample above 4,095, or the number of samples
 unfoldable pub firstOver : List ℕ → ℕ
-firstOver [] = 0
-firstOver (x ∷ xs) = cond (ltb 4095 x) 0 (suc (firstOver xs))
+firstOver samples = first (λ k. ltb 4095 (getD samples k 0)) (length samples)
 
 -- some sample is above 4,095: there is a first one
 abbrev pub sampleOut : List ℕ → Bool

@@ -1,15 +1,14 @@
 -- Which sample `firstOver` names, and that a call is accepted exactly when its inputs are as document 01 has them. Assumes nothing.
-use mathlib.Core.Bool.{Bool, true, false, cond, not, _&&_, _||_}
+use mathlib.Core.Bool.{Bool, true, false, not, _&&_, _||_}
 use mathlib.Core.Path.{_≡_, refl, ap, _∙_}
 use mathlib.Core.List.{List, [], _∷_, _++_}
-use Prim.Native.Nat.{ℕ, zero, suc, _+_, _*_, _≤_, _<_}
-use native.Mathlib.Nat.{mul-comm, not-suc-le-zero}
-use native.Mathlib.Numerals.{add-one}
+use Prim.Native.Nat.{ℕ, _*_, _≤_, _<_}
+use native.Mathlib.Nat.{mul-comm, lt-irrefl}
 use native.Mathlib.Omega.{arith}
-use lib.ListN.{length, drop, getD, drop-of-length-le}
-use lib.Seq.{drop-cons}
+use lib.ListN.{length, getD}
 use lib.Dec.{ltb, leb}
 use borrow.Author.Tests.{lt-ltb, le-ltb, ltb-true, ltb-false, leb-true, leb-false, le-leb, eqb-true, eq-eqb, not-false}
+use Rattle.counting.specs.First.{First, first-is, first-of}
 use Rattle.refusal.specs.Numbers as numbers
 use Rattle.refusal.specs.Table.{row, refusalOf, lowest, otherwise}
 use Rattle.refusal.specs.Laws.{Silent, accepted-silent, lowest-here, lowest-next, lowest-append}
@@ -35,61 +34,27 @@ within-says least most x e =
 
 -- ---- the first sample that is too large
 
--- one step of a look from the front, by what is left of the list
-pub here : (l : List ℕ) (i : ℕ) → i < length l → 4095 < getD l i 0 → firstOver (drop i l) ≡ 0
-unfolding firstOver
-here l i h g = rw (drop-cons l i 0 h, lt-ltb 4095 (getD l i 0) g)
+module _ (l : List ℕ) where
+  over-is : First (λ k. ltb 4095 (getD l k 0)) (length l) (firstOver l)
+  unfolding firstOver
+  over-is = first-is _ _
 
-pub further : (l : List ℕ) (i : ℕ) → i < length l → getD l i 0 ≤ 4095 → firstOver (drop i l) ≡ suc (firstOver (drop (i + 1) l))
-unfolding firstOver
-further l i h g = rw (add-one, drop-cons l i 0 h, le-ltb 4095 (getD l i 0) g)
+  -- whatever is above 4,095, with none before it, is the first
+  pub over-here : (i : ℕ) → i < length l → ((k : ℕ) → k < i → getD l k 0 ≤ 4095) → 4095 < getD l i 0 → i ≡ firstOver l
+  unfolding firstOver
+  over-here i h f g = first-of _ _ (record { most = omega arith; none = λ k p. le-ltb 4095 (getD l k 0) (f k p); taken = λ _. lt-ltb 4095 (getD l i 0) g })
 
-pub ended : (l : List ℕ) (i : ℕ) → length l ≤ i → firstOver (drop i l) ≡ 0
-unfolding firstOver
-ended l i h = rw (drop-of-length-le l h)
+  -- it is above 4,095, and none before it is
+  pub first-over : firstOver l < length l → (4095 < getD l (firstOver l) 0) × ((k : ℕ) → k < firstOver l → getD l k 0 ≤ 4095)
+  first-over h = (ltb-true 4095 _ (over-is .taken h), λ k p. ltb-false 4095 _ (over-is .none k p))
 
--- it is above 4,095, and none before it is
-pub first-over : (l : List ℕ) → firstOver l < length l → (4095 < getD l (firstOver l) 0) × ((k : ℕ) → k < firstOver l → getD l k 0 ≤ 4095)
-unfolding firstOver
-first-over [] h = absurd (not-suc-le-zero h)
-first-over (x ∷ xs) h = go (ltb 4095 x) refl (first-over xs) h
-  where
-    go : (b : Bool) → ltb 4095 x ≡ b
-        → (firstOver xs < length xs → (4095 < getD xs (firstOver xs) 0) × ((k : ℕ) → k < firstOver xs → getD xs k 0 ≤ 4095))
-        → cond b 0 (suc (firstOver xs)) < suc (length xs)
-        → (4095 < getD (x ∷ xs) (cond b 0 (suc (firstOver xs))) 0) × ((k : ℕ) → k < cond b 0 (suc (firstOver xs)) → getD (x ∷ xs) k 0 ≤ 4095)
-    go true e i h = (ltb-true 4095 x e, λ k l. absurd (not-suc-le-zero l))
-    go false e i h =
-        let r = i (omega arith) in
-        (r .0, step (ltb-false 4095 x e) (r .1))
-      where
-        step : x ≤ 4095 → ((k : ℕ) → k < firstOver xs → getD xs k 0 ≤ 4095) → (k : ℕ) → k < suc (firstOver xs) → getD (x ∷ xs) k 0 ≤ 4095
-        step p f zero l = p
-        step p f (suc k) l = f k (omega arith)
+  -- none is above 4,095 exactly where the first is past the end
+  none-over : length l ≤ firstOver l → (k : ℕ) → k < length l → getD l k 0 ≤ 4095
+  none-over h k p = ltb-false 4095 _ (over-is .none k (omega arith))
 
--- and if any is above 4,095, there is a first one
-pub over-first : (l : List ℕ) (k : ℕ) → k < length l → 4095 < getD l k 0 → firstOver l ≤ k
-unfolding firstOver
-over-first [] k h g = absurd (not-suc-le-zero h)
-over-first (x ∷ xs) zero h g = rw (lt-ltb 4095 x g) (omega arith)
-over-first (x ∷ xs) (suc k) h g = go (ltb 4095 x) (over-first xs k (omega arith) g)
-  where
-    go : (b : Bool) → firstOver xs ≤ k → cond b 0 (suc (firstOver xs)) ≤ suc k
-    go true i = omega arith
-    go false i = omega arith
-
--- so none is above 4,095 exactly where the first is past the end
-none-over : (l : List ℕ) → length l ≤ firstOver l → (k : ℕ) → k < length l → getD l k 0 ≤ 4095
-none-over l h k p = go (ltb 4095 (getD l k 0)) refl
-  where
-    go : (b : Bool) → ltb 4095 (getD l k 0) ≡ b → getD l k 0 ≤ 4095
-    go true e = let f = over-first l k p (ltb-true 4095 (getD l k 0) e) in absurd (omega arith)
-    go false e = ltb-false 4095 (getD l k 0) e
-
-pub over-end : (l : List ℕ) → ((k : ℕ) → k < length l → getD l k 0 ≤ 4095) → firstOver l ≡ length l
-unfolding firstOver
-over-end [] f = refl
-over-end (x ∷ xs) f = rw (le-ltb 4095 x (f 0 (omega arith)), over-end xs (λ k h. f (suc k) (omega arith)))
+  pub over-end : ((k : ℕ) → k < length l → getD l k 0 ≤ 4095) → length l ≡ firstOver l
+  unfolding firstOver
+  over-end f = first-of _ _ (record { most = omega arith; none = λ k p. le-ltb 4095 (getD l k 0) (f k p); taken = λ h. absurd (lt-irrefl _ h) })
 
 over-none : (l : List ℕ) → ((k : ℕ) → k < length l → getD l k 0 ≤ 4095) → sampleOut l ≡ false
 over-none l f = le-ltb (firstOver l) (length l) (omega (arith, over-end l f))

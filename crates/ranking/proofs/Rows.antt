@@ -9,7 +9,8 @@ use lib.IntN.{ℤ}
 use lib.ListN.{length, take, drop, length-append, length-take, length-drop}
 use lib.Seq.{take-at, drop-append-add, drop-drop}
 use Rattle.sorting.specs.Laws.{ordered-ext}
-use Rattle.votes.specs.Votes.{triples, votesOf, countersOf}
+use Rattle.vectors.specs.Triples.{triples}
+use Rattle.votes.specs.Votes.{votesOf, countersOf}
 use Rattle.votes.specs.Laws.{counter-within}
 use Rattle.ranking.specs.Row.{every, votesAt, rowBy}
 use Rattle.ranking.specs.Ranking.{rowOf, rowsOf}

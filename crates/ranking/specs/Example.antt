@@ -6,7 +6,7 @@ use lib.IntN.{ℤ, pos}
 use Rattle.vectors.specs.Triples.{tripleAt, pairDot}
 use Rattle.vectors.specs.Agree.{agreeing}
 use Rattle.sorting.specs.Order.{put, ordered}
-use Rattle.votes.specs.Counting.{number, pairs}
+use Rattle.counting.specs.Number.{number, pairs}
 use Rattle.votes.specs.Votes.{votesOf}
 use Rattle.ranking.specs.Ranking.{rowOf, rowsOf, rankingOf}
 

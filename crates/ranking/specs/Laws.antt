@@ -11,7 +11,8 @@ use lib.ListN.{length, getD, length-append, List·getD-append}
 use lib.Seq.{getD-append-add}
 use Rattle.sorting.specs.Order.{ordered}
 use Rattle.sorting.specs.Laws.{count, each-once, below-all, in-order, put-length, Ahead, InOrder}
-use Rattle.votes.specs.Votes.{triples, votesOf}
+use Rattle.vectors.specs.Triples.{triples}
+use Rattle.votes.specs.Votes.{votesOf}
 use Rattle.ranking.specs.Row.{every}
 use Rattle.ranking.specs.Ranking.{rowOf, rowsOf, rankingOf}
 use Rattle.ranking.specs.Places.{all-at, counted-at, ahead-at, order-once}

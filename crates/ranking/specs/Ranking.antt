@@ -3,7 +3,8 @@ use mathlib.Core.List.{List, [], _++_}
 use Prim.Native.Nat.{ℕ, zero, suc}
 use lib.IntN.{ℤ}
 use Rattle.sorting.specs.Order.{ordered}
-use Rattle.votes.specs.Votes.{triples, votesOf}
+use Rattle.vectors.specs.Triples.{triples}
+use Rattle.votes.specs.Votes.{votesOf}
 use Rattle.ranking.specs.Row.{every}
 
 -- a direction's row: the star with most votes first, and the lower record number first among equal ones

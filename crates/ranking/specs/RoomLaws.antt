@@ -7,6 +7,7 @@ use borrow.Author.Tests.{not-false, leb-true, ltb-false}
 use lib.IntN.{ℤ}
 use lib.ListN.{length, take, drop}
 use lib.Seq.{take-at, drop-at}
+use Rattle.counting.specs.Contradiction.{contradiction}
 use Rattle.refusal.specs.declared.Refusal.{Refusal}
 use Rattle.refusal.specs.declared.Outcome.{Outcome}
 use Rattle.refusal.specs.declared.Outcome.the-variants.{Accepted, Refused}
@@ -20,7 +21,7 @@ use Rattle.catalogue.specs.CheckLaws.{accepted-valid, valid-accepted}
 use Rattle.catalogue.specs.Stars.{starsOf}
 use Rattle.catalogue.specs.Valid.{Valid}
 use Rattle.catalogue.specs.ValidStars.{valid-length, valid-within}
-use Rattle.votes.specs.Votes.{triples, Listed}
+use Rattle.vectors.specs.Triples.{triples, Listed}
 use Rattle.ranking.specs.Ranking.{rankingOf}
 use Rattle.ranking.specs.Laws.{Ranks, ranks}
 use Rattle.ranking.specs.Refusals.{toleranceOk, rowsBeside, refusalsOf}
@@ -49,16 +50,13 @@ module _ (directions : List ℤ) (bytes : List ℕ) (tolerance words : ℕ) wher
   pub accepted-sound : lowest (refusalsOf directions bytes tolerance words) ≡ Accepted → Sound directions bytes tolerance words
   accepted-sound h = go (lowest (catalogue.refusalsOf bytes)) refl
     where
-      zero-one : _≡_ {A = ℕ} 0 1 → ⊥
-      zero-one z = omega arith
-
       go : (o : Outcome) → lowest (catalogue.refusalsOf bytes) ≡ o → Sound directions bytes tolerance words
       go Accepted e =
           let b = beside-sound (sym (outcome-joined directions bytes tolerance words e) ∙ h) in
           record { catalogue = accepted-valid bytes e; list = b .0; near = b .1; room = b .2 }
       go (Refused r) e =
           let d : Refused r ≡ Accepted = sym (outcome-joined directions bytes tolerance words e) ∙ h in
-          absurd (zero-one cc)
+          contradiction (cc)
 
   pub sound-accepted : Sound directions bytes tolerance words → lowest (refusalsOf directions bytes tolerance words) ≡ Accepted
   sound-accepted s =

@@ -7,7 +7,7 @@ ghost use mathlib.Core.Path.{_≡_};
 ghost use mathlib.Core.List.{_++_};
 ghost use Prim.Native.Nat.{_*_, _<_, _≤_};
 ghost use lib.ListN.{length, drop};
-ghost use Rattle.votes.specs.Votes.{triples, Listed};
+ghost use Rattle.vectors.specs.Triples.{triples, Listed};
 ghost use Rattle.ranking.specs.Ranking.{rowOf, rankingOf};
 ghost use Rattle.ranking.specs.Room.{rankOutcomeOf, roomAfter};
 

@@ -4,7 +4,7 @@ use mathlib.Core.Bool.{Bool, true, false, cond}
 use mathlib.Core.Path.{_≡_, refl, ap, subst, _∙_}
 use mathlib.Core.List.{List, [], _∷_, _++_}
 use Prim.Native.Nat.{ℕ}
-use native.Mathlib.Omega.{arith}
+use Rattle.counting.specs.Contradiction.{contradiction}
 use Rattle.refusal.specs.declared.Refusal.{Refusal}
 use Rattle.refusal.specs.declared.Outcome.{Outcome}
 use Rattle.refusal.specs.declared.Outcome.the-variants.{Accepted, Refused}
@@ -71,17 +71,11 @@ by-row false k q n p rs f e =
 
 pub refused-given : (rows : List Row) (n p : ℕ) → lowest rows ≡ refusalOf n p → Given rows n p
 unfolding lowest
-refused-given [] n p e = let z : _≡_ {A = ℕ} 0 1 = cc in absurd (impossible z)
-  where
-    impossible : _≡_ {A = ℕ} 0 1 → ⊥
-    impossible z = omega arith
+refused-given [] n p e = contradiction (cc)
 refused-given (r ∷ rs) n p e = by-row (r .applies) (r .number) (r .place) n p rs (refused-given rs n p) e
 
 by-silence : (c : Bool) (k q : ℕ) (rs : List Row) → (lowest rs ≡ Accepted → Silent rs) → cond c (refusalOf k q) (lowest rs) ≡ Accepted → (c ≡ false) × Silent rs
-by-silence true k q rs f e = let z : _≡_ {A = ℕ} 0 1 = cc in absurd (impossible z)
-  where
-    impossible : _≡_ {A = ℕ} 0 1 → ⊥
-    impossible z = omega arith
+by-silence true k q rs f e = contradiction (cc)
 by-silence false k q rs f e = (refl, f e)
 
 pub accepted-silent : (rows : List Row) → lowest rows ≡ Accepted → Silent rows
@@ -102,10 +96,7 @@ lowest-append (r ∷ rs) ys = by (r .applies) (lowest-append rs ys)
 
 pub otherwise-accepted : (a b : Outcome) → otherwise a b ≡ Accepted → (a ≡ Accepted) × (b ≡ Accepted)
 otherwise-accepted Accepted b e = (refl, e)
-otherwise-accepted (Refused r) b e = let z : _≡_ {A = ℕ} 0 1 = cc in absurd (impossible z)
-  where
-    impossible : _≡_ {A = ℕ} 0 1 → ⊥
-    impossible z = omega arith
+otherwise-accepted (Refused r) b e = contradiction (cc)
 
 -- ---- what holds of the number of every row holds of the number given
 
@@ -125,8 +116,5 @@ by-number P false k p rs q h f e = f e
 
 pub lowest-every : (P : ℕ → Type 0) (rows : List Row) → Every P rows → (q : Refusal) → lowest rows ≡ Refused q → P (q .number)
 unfolding lowest Every
-lowest-every P [] a q e = let z : _≡_ {A = ℕ} 0 1 = cc in absurd (impossible z)
-  where
-    impossible : _≡_ {A = ℕ} 0 1 → ⊥
-    impossible z = omega arith
+lowest-every P [] a q e = contradiction (cc)
 lowest-every P (r ∷ rs) a q e = by-number P (r .applies) (r .number) (r .place) rs q (a .0) (lowest-every P rs (a .1) q) e

@@ -13,13 +13,12 @@ use lib.Seq.{take-at, length-take-le}
 use Rattle.refusal.specs.declared.Outcome.the-variants.{Accepted}
 use Rattle.refusal.specs.Numbers as number
 use Rattle.refusal.specs.Table.{refusalOf}
-use Rattle.vectors.specs.Triples.{AllWithin}
+use Rattle.vectors.specs.Triples.{AllWithin, triples}
 use Rattle.frame.specs.declared.Report.{Report}
 use Rattle.direction.specs.ListLaws.{directionsIn, Directions}
 use Rattle.catalogue.specs.Format.{recordsIn}
 use Rattle.catalogue.specs.Stars.{starsOf}
 use Rattle.catalogue.specs.ValidStars.{valid-length}
-use Rattle.votes.specs.Votes.{triples}
 use Rattle.ranking.specs.Ranking.{rankingOf}
 use Rattle.ranking.specs.Laws.{Ranks, ranking-length, ranks}
 use Rattle.ranking.specs.Room as room

@@ -5,6 +5,7 @@ use mathlib.Core.Logic.{_⊎_, inl, inr, ⊎-elim}
 use Prim.Native.Nat.{ℕ}
 use native.Mathlib.Omega.{arith}
 use lib.IntN.{ℤ}
+use Rattle.counting.specs.Contradiction.{contradiction}
 use Rattle.refusal.specs.declared.Refusal.{Refusal}
 use Rattle.refusal.specs.declared.Outcome.{Outcome}
 use Rattle.refusal.specs.declared.Outcome.the-variants.{Accepted, Refused}
@@ -34,9 +35,6 @@ use Rattle.tracker.specs.ChainLaws.{our-call, sights-listed, enough-sigh
 numberIn : Outcome → ℕ
 numberIn Accepted = 0
 numberIn (Refused r) = r .number
-
-zero-one : _≡_ {A = ℕ} 0 1 → ⊥
-zero-one z = omega arith
 
 -- a computed search is accepted, or finds that nothing fits
 found-known : (a : run.Answer) → (foundOf a .outcome ≡ Accepted) ⊎ (foundOf a .outcome ≡ Refused sought.noFit)
@@ -70,7 +68,7 @@ module _ (report : Report) (bytes : List ℕ) (s : Settings) (room : List ℕ) (
       let e′ = sym (ap (λ (o : Outcome). answered refusedWith (oriented report (ourIdentification report bytes s .stars) turned) o .outcome) k) ∙ e in
       inr (⊎-elim
       (λ t. sym (ap numberIn (sym (ap (λ (a : Attitude). oriented report (ourIdentification report bytes s .stars) a .outcome) t) ∙ e′)))
-      (λ t. absurd (zero-one (let z = sym (ap (λ (a : Attitude). oriented report (ourIdentification report bytes s .stars) a .outcome) t) ∙ e′ in cc)))
+      (λ t. let z = sym (ap (λ (a : Attitude). oriented report (ourIdentification report bytes s .stars) a .outcome) t) ∙ e′ in contradiction (cc))
       (in-range-answer _ _ _ _ (in-range _ _ _ _))))
       (λ (k : ourIdentification report bytes s .outcome ≡ Refused sought.noFit).
       inl (sym (ap numberIn (sym (ap (λ (o : Outcome). answered refusedWith (oriented report (ourIdentification report bytes s .stars) turned) o .outcome) k) ∙ e))))

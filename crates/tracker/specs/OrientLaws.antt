@@ -8,6 +8,7 @@ use native.Mathlib.Numerals.{add-one}
 use native.Mathlib.Omega.{arith}
 use lib.Dec.{ltb, leb}
 use borrow.Author.Tests.{leb-true, le-leb, ltb-true}
+use Rattle.counting.specs.Contradiction.{contradiction}
 use Rattle.counting.specs.First.{First, first, first-is}
 use Rattle.assignment.specs.Order.{at}
 use Rattle.assignment.specs.Problem.{one, assigned}
@@ -36,9 +37,9 @@ module _ (words : List ℕ) (stars directions : ℕ) where
   none-after from (suc n) h f = go (decLe from n) (none-after from n)
     where
       one-none : (a : Bool) (l : Bool) → a ≡ true → a && l ≡ false → one l ≡ 0
-      one-none true true p e = let z : _≡_ {A = ℕ} 0 1 = cc in absurd (omega arith)
+      one-none true true p e = contradiction (cc)
       one-none true false p e = refl
-      one-none false l p e = let z : _≡_ {A = ℕ} 0 1 = cc in absurd (omega arith)
+      one-none false l p e = contradiction (cc)
 
       go : Dec (from ≤ n) → (from ≤ n → ((i : ℕ) → i < n → taken from i ≡ false) → assigned stars words n ≡ assigned stars words from) → assigned stars words n + one (ltb (at words n) stars) ≡ assigned stars words from
       go (yes p) r = omega (arith, r p (λ i l. f i (omega arith)), one-none (leb from n) (ltb (at words n) stars) (le-leb from n p) (f n (omega arith)))
@@ -58,7 +59,7 @@ module _ (words : List ℕ) (stars directions : ℕ) where
   up-to-first (suc n) h = omega (arith, up-to-first n (omega arith), unset (ltb (at words n) stars) (is-first 0 .none n (omega arith)))
     where
       unset : (l : Bool) → leb 0 n && l ≡ false → one l ≡ 0
-      unset true e = let z : _≡_ {A = ℕ} 0 1 = cc (le-leb 0 n zero-le) in absurd (omega arith)
+      unset true e = contradiction (cc (le-leb 0 n zero-le))
       unset false e = refl
 
   assigned-next : (n : ℕ) → assigned stars words (n + 1) ≡ assigned stars words n + one (ltb (at words n) stars)

@@ -5,6 +5,7 @@ use mathlib.Core.List.{List}
 use Prim.Native.Nat.{ℕ}
 use native.Mathlib.Omega.{arith}
 use lib.IntN.{ℤ}
+use Rattle.counting.specs.Contradiction.{contradiction}
 use Rattle.refusal.specs.declared.Refusal.{Refusal}
 use Rattle.refusal.specs.declared.Outcome.{Outcome}
 use Rattle.refusal.specs.declared.Outcome.the-variants.{Accepted, Refused}
@@ -33,9 +34,6 @@ numberAt : Attitude → ℕ
 numberAt (attitude.Refused r) = r .number
 numberAt (attitude.Found m) = 0
 
-zero-one : _≡_ {A = ℕ} 0 1 → ⊥
-zero-one z = omega arith
-
 -- the attitude is refused with 8 or 14
 attitude-13 : (v1 v2 w1 w2 : Vec3) → numberAt (attitudeOf v1 v2 w1 w2) ≡ number.noFit → ⊥
 unfolding attitudeOf lowest numberAt
@@ -48,7 +46,7 @@ attitude-13 v1 v2 w1 w2 e = by (outOfRange v1 v2 w1 w2) (eitherClose v1 v2 w1 w2
 
 module _ (report : Report) (directions : List ℤ) (bytes : List ℕ) where
   oriented-accepted : (words : List ℕ) (a : Attitude) → oriented report words a .outcome ≡ Accepted → oriented report words a .stars ≡ words
-  oriented-accepted words (attitude.Refused r) e = absurd (zero-one (cc))
+  oriented-accepted words (attitude.Refused r) e = contradiction (cc)
   oriented-accepted words (attitude.Found m) e = refl
 
   oriented-number : (words : List ℕ) (a : Attitude) → numberIn (oriented report words a .outcome) ≡ numberAt a
@@ -63,7 +61,7 @@ module _ (report : Report) (directions : List ℤ) (bytes : List ℕ) where
 
     settled-accepted : (o : Outcome) → settled o .outcome ≡ Accepted → (o ≡ Accepted) × (settled o .stars ≡ words)
     settled-accepted Accepted e = (refl, oriented-accepted words a e)
-    settled-accepted (Refused r) e = absurd (zero-one (cc))
+    settled-accepted (Refused r) e = contradiction (cc)
 
     settled-refused : (numberAt a ≡ number.noFit → ⊥) → (o : Outcome) → settled o .outcome ≡ refusalOf number.noFit 0 → accepted o ≡ false
     unfolding numberIn

@@ -10,10 +10,10 @@ use lib.Dec.{ltb}
 use lib.IntN.{ℤ, pos}
 use lib.ListN.{length, getD, set, replicate}
 use lib.Seq.{getD-set-same, getD-set-other, ext-getD}
-use Rattle.vectors.specs.Triples.{pairDot}
-use Rattle.votes.specs.Counting.{pairs}
-use Rattle.votes.specs.CountingLaws.{pairs-same}
-use Rattle.votes.specs.Votes.{triples, isVote, votesOf, countersOf}
+use Rattle.vectors.specs.Triples.{triples, pairDot}
+use Rattle.counting.specs.Number.{pairs}
+use Rattle.counting.specs.NumberLaws.{pairs-same}
+use Rattle.votes.specs.Votes.{isVote, votesOf, countersOf}
 use Rattle.votes.specs.Laws.{firsts-length, firsts-at}
 use Rattle.votes.specs.Progress.{Setting, setting, voteBy, from, between, soFar}
 use Rattle.votes.specs.ProgressLaws.{between-comm, from-other, from-self, so-far-within, so-far-beyond}

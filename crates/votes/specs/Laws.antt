@@ -10,8 +10,9 @@ use lib.IntN.{ℤ}
 use lib.ListN.{length, getD, length-append, List·getD-append}
 use lib.Seq.{getD-at}
 use borrow.Author.Tests.{lt-ltb, le-ltb, eq-eqb}
-use Rattle.votes.specs.CountingLaws.{number-none, number-but, pairs-but}
-use Rattle.votes.specs.Votes.{triples, other, isVote, votesOf, firsts, countersOf}
+use Rattle.counting.specs.NumberLaws.{number-none, number-but, pairs-but}
+use Rattle.vectors.specs.Triples.{triples}
+use Rattle.votes.specs.Votes.{other, isVote, votesOf, firsts, countersOf}
 
 pub firsts-length : (n : ℕ) (f : ℕ → ℕ) → length (firsts n f) ≡ n
 unfolding firsts

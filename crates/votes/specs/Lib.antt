@@ -1,6 +1,4 @@
 -- The definitions that the contracts cite, and their laws.
-pub mod Counting
-pub mod CountingLaws
 pub mod Votes
 pub mod Laws
 pub mod Progress

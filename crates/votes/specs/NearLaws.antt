@@ -9,8 +9,8 @@ use lib.ListN.{getD}
 use Rattle.numbers.specs.Abs.{abs-add, abs-neg}
 use Rattle.numbers.specs.Within.{Within}
 use Rattle.vectors.specs.Agree.{agreeing, agreeing-near}
-use Rattle.votes.specs.Counting.{number}
-use Rattle.votes.specs.CountingLaws.{number-none}
+use Rattle.counting.specs.Number.{number}
+use Rattle.counting.specs.NumberLaws.{number-none}
 use Rattle.votes.specs.Votes.{other}
 use Rattle.votes.specs.Progress.{agreesWith}
 use Rattle.votes.specs.Near.{placeOf, Marks, AllMarked}

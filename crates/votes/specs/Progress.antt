@@ -7,7 +7,7 @@ use lib.IntN.{ℤ, pos}
 use lib.ListN.{getD}
 use Rattle.vectors.specs.Triples.{pairDot}
 use Rattle.vectors.specs.Agree.{agreeing}
-use Rattle.votes.specs.Counting.{number, pairs}
+use Rattle.counting.specs.Number.{number, pairs}
 use Rattle.votes.specs.Votes.{other}
 
 -- direction j is another than i, and the product q of the two agrees with p

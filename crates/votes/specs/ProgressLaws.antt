@@ -6,8 +6,8 @@ use native.Mathlib.Nat.{le-trans}
 use native.Mathlib.Omega.{arith}
 use borrow.Author.Tests.{lt-ltb, le-ltb, ne-eqb, eq-eqb}
 use Rattle.vectors.specs.Laws.{pair-comm}
-use Rattle.votes.specs.Counting.{number, pairs}
-use Rattle.votes.specs.CountingLaws.{number-most, number-none, pairs-next, pairs-most}
+use Rattle.counting.specs.Number.{number, pairs}
+use Rattle.counting.specs.NumberLaws.{number-most, number-none, pairs-next, pairs-most}
 use Rattle.votes.specs.Votes.{other}
 use Rattle.votes.specs.Progress.{Setting, voteBy, from, between, soFar}
 

@@ -1,22 +1,12 @@
 -- The votes of the stars for one direction. Directions and stars are lists in threes. Assumes nothing.
 use mathlib.Core.Bool.{Bool, cond, not, _&&_}
 use mathlib.Core.List.{List, [], _∷_, _++_}
-use Prim.Native.Nat.{ℕ, zero, suc, _/_, _≤_}
+use Prim.Native.Nat.{ℕ, zero, suc}
 use lib.Dec.{ltb, eqb}
 use lib.IntN.{ℤ}
-use lib.ListN.{length}
-use Rattle.vectors.specs.Triples.{AllWithin, pairDot}
+use Rattle.vectors.specs.Triples.{triples, pairDot}
 use Rattle.vectors.specs.Agree.{agreeing}
-use Rattle.votes.specs.Counting.{pairs}
-
--- how many triples a list has
-abbrev pub triples : List ℤ → ℕ
-triples list = length list / 3
-
--- at most so many triples, each number within ±10^9
-pub record Listed (most : ℕ) (list : List ℤ) : Type 0 where
-  pub few : triples list ≤ most
-  pub near : AllWithin 1000000000 list
+use Rattle.counting.specs.Number.{pairs}
 
 -- one number is another than the other
 abbrev pub other : ℕ → ℕ → Bool

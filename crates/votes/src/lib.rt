@@ -4,9 +4,9 @@ ghost use Prim.Native.Nat.{ℕ, _+_, _-_, _/_, _<_, _≤_};
 ghost use lib.IntN.{pos};
 ghost use lib.ListN.{getD, length};
 ghost use Rattle.numbers.specs.Within.{Within};
-ghost use Rattle.vectors.specs.Triples.{AllWithin, pairDot};
-ghost use Rattle.votes.specs.Counting.{one, number};
-ghost use Rattle.votes.specs.Votes.{triples, Listed, countersOf};
+ghost use Rattle.vectors.specs.Triples.{AllWithin, triples, Listed, pairDot};
+ghost use Rattle.counting.specs.Number.{one, number};
+ghost use Rattle.votes.specs.Votes.{countersOf};
 ghost use Rattle.votes.specs.Progress.{agreesWith, agreesBy, setting, soFar};
 ghost use Rattle.votes.specs.Near.{Marks, AllMarked};
 

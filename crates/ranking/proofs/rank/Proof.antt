@@ -13,7 +13,7 @@ use Rattle.catalogue.specs.Format.{recordsIn}
 use Rattle.catalogue.specs.Stars.{starsOf}
 use Rattle.catalogue.specs.Valid.{Valid}
 use Rattle.catalogue.specs.Lent.{lent-within, lent-stars}
-use Rattle.votes.specs.Votes.{triples, Listed}
+use Rattle.vectors.specs.Triples.{triples, Listed}
 use Rattle.ranking.specs.Ranking.{rankingOf}
 use Rattle.ranking.specs.Room.{rankOutcomeOf}
 use Rattle.ranking.specs.RoomLaws.{Sound, accepted-sound, stars-counted, stars-listed, directions-listed, room-kept, room-written}

@@ -5,7 +5,7 @@ use Prim.Native.Nat.{ℕ, _≤_, _-_, _+_, _*_}
 use native.Mathlib.Omega.{arith}
 use borrow.Author.Needs.{needs}
 use lib.ListN.{length, drop}
-use Rattle.votes.specs.Votes.{triples}
+use Rattle.vectors.specs.Triples.{triples}
 use Rattle.ranking.specs.Ranking.{rowsOf, rankingOf}
 use Rattle.ranking.proofs.Rows.{row-fits, rows-none, rows-more, mid-length, back-length}
 use Rattle.ranking.proofs.write_ranking.Statement.{statement}

@@ -5,6 +5,7 @@ use mathlib.Core.List.{List}
 use Prim.Native.Nat.{ℕ}
 use native.Mathlib.Omega.{arith}
 use lib.ListN.{length}
+use Rattle.counting.specs.Contradiction.{contradiction}
 use Rattle.refusal.specs.declared.Refusal.{Refusal}
 use Rattle.refusal.specs.declared.Outcome.{Outcome}
 use Rattle.refusal.specs.declared.Outcome.the-variants.{Accepted, Refused}
@@ -65,16 +66,13 @@ numberIn : Outcome → ℕ
 numberIn Accepted = 0
 numberIn (Refused r) = r .number
 
-zero-one : _≡_ {A = ℕ} 0 1 → ⊥
-zero-one z = omega arith
-
 -- a call that is refused with one of 1 to 12 names nothing, and is not refused with 13
 nothing-named : (c : Call) (q : Refusal) (t : Tracked) → lowest (refusalsOf c) ≡ Refused q → t ≡ refusedWith q → Names (listed c .report) (c .catalogue) (c .settings) t
 unfolding numberIn
 nothing-named c q t e h =
     let o : t .outcome ≡ Refused q = ap (λ (x : Tracked). x .outcome) h in
     record {
-      first = λ a. absurd (zero-one (let b : Refused q ≡ Accepted = sym o ∙ a in cc));
+      first = λ a. let b : Refused q ≡ Accepted = sym o ∙ a in contradiction (cc);
       none = λ n. absurd (omega (arith, refused-early c q e .most, ap numberIn (sym o ∙ n)));
     }
 

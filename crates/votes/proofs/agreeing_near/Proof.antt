@@ -7,7 +7,7 @@ use lib.IntN.{natAbs}
 use lib.ListN.{getD}
 use mir.Syntax.{w64}
 use Rattle.numbers.specs.Num.{Num, arg, back}
-use Rattle.votes.specs.Counting.{number}
+use Rattle.counting.specs.Number.{number}
 use Rattle.votes.specs.Progress.{agreesWith}
 use Rattle.votes.specs.Near.{placeOf}
 use Rattle.votes.specs.NearLaws.{none-near}

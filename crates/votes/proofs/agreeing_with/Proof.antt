@@ -7,8 +7,8 @@ use borrow.Author.Needs.{needs}
 use mir.Syntax.{w64}
 use mir.Val.{toZ, ofZ}
 use Rattle.numbers.specs.Num.{Num, arg, back, near}
-use Rattle.votes.specs.Counting.{one, number}
-use Rattle.votes.specs.CountingLaws.{one-most, number-next, number-most}
+use Rattle.counting.specs.Number.{one, number}
+use Rattle.counting.specs.NumberLaws.{one-most, number-next, number-most}
 use Rattle.votes.specs.Progress.{agreesBy, agreesWith}
 use Rattle.votes.proofs.agreeing_with.Statement.{statement}
 use Rattle.votes.proofs.agreeing_with.Tie as tie

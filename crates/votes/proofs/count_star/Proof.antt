@@ -8,7 +8,7 @@ use borrow.Author.Needs.{needs}
 use lib.ListN.{length, getD, length-set}
 use mir.Syntax.{w64}
 use Rattle.numbers.specs.Num.{arg, kept, near}
-use Rattle.votes.specs.Counting.{number}
+use Rattle.counting.specs.Number.{number}
 use Rattle.votes.specs.Progress.{Setting, setting, agreesWith, from, between}
 use Rattle.votes.specs.ProgressLaws.{from-none, from-most, between-most}
 use Rattle.votes.proofs.Counters as C

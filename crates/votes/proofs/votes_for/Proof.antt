@@ -4,7 +4,7 @@ use Prim.Native.Nat.{ℕ, _≤_, _-_}
 use native.Mathlib.Omega.{arith}
 use borrow.Author.Needs.{needs}
 use lib.ListN.{length, getD}
-use Rattle.votes.specs.Votes.{triples}
+use Rattle.vectors.specs.Triples.{triples}
 use Rattle.votes.specs.Progress.{setting, soFar}
 use Rattle.votes.proofs.Counters.{none-counted, all-counted}
 use Rattle.votes.proofs.votes_for.Statement.{statement}

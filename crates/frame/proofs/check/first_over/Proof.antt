@@ -1,5 +1,4 @@
 -- `frame::check::first_over` meets its contract: where no sample is too large, the first is past the end. Assumes nothing.
-use mathlib.Core.Path.{sym}
 use native.Mathlib.Omega.{arith}
 use borrow.Author.Needs.{needs}
 use Rattle.frame.specs.InputLaws.{over-end}
@@ -12,7 +11,7 @@ largest-requires c κs = search needs
 returns : tie.Need-returns
 returns c =
     let g = c .before in
-    sym (over-end (g .before .before .args .samples .now) (λ k h. omega (arith, g .largest .ensures k h)))
+    over-end (g .before .before .args .samples .now) (λ k h. omega (arith, g .largest .ensures k h))
 
 look-for-over-requires : tie.Need-look-for-over-requires
 look-for-over-requires c κs = search needs

@@ -6,7 +6,7 @@ use native.Mathlib.Decide.{ℕ-discrete}
 use native.Mathlib.Nat.{mul-suc, not-suc-le-zero}
 use native.Mathlib.Numerals.{add-one}
 use native.Mathlib.Omega.{arith}
-use Rattle.votes.specs.Counting.{one, number, pairs}
+use Rattle.counting.specs.Number.{one, number, pairs}
 
 pub one-most : (b : Bool) → one b ≤ 1
 one-most true = omega arith
