@@ -2,6 +2,7 @@
 pub mod Tests
 pub mod Search
 pub mod Unique
+pub mod Pruning
 pub mod Fit
 pub mod Pigeon
 pub mod Run

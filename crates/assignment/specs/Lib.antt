@@ -2,5 +2,6 @@
 pub mod Order
 pub mod Tests
 pub mod Problem
+pub mod Pruning
 pub mod Fit
 pub mod Run

@@ -42,7 +42,7 @@ use Rattle.assignment.specs.Fit.{pairs}
 use Rattle.assignment.specs.Run.{row, run, firstFit}
 use Rattle.assignment.proofs.Tests.{never, and-left, and-right, or-none, all-true}
 use Rattle.search.specs.Once.{clash, lentOf}
-use Rattle.search.specs.Fit.{agreement, standing}
+use Rattle.fit.specs.Fit.{agreement, standing}
 use Rattle.search.specs.Refusals as refusals
 use Rattle.search.specs.declared.Identification.{Identification}
 use Rattle.search.specs.Identified.{padTo, identificationOf}

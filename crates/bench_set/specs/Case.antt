@@ -32,7 +32,7 @@ pub data Case : Type 0 where
 abbrev pub judgedAs : ℕ → ℕ → Kind → Judgement
 judgedAs row column kind = Judged (record { row = row; column = column; kind = kind })
 
--- The search's promise is no equation: besides the answer computed, whatever keeps the promise is the answer
+-- For a search, besides the answer computed, whatever keeps demand 3 is the answer
 abbrev pub Holds : Case → Type 0
 Holds (pixel samples threshold row column kind) = judgementOf samples side side threshold row column ≡ judgedAs row column kind
 Holds (others samples threshold row column kind) =

@@ -25,14 +25,14 @@ use Rattle.catalogue.specs.Stars.{starsOf}
 use Rattle.catalogue.specs.Valid.{Valid}
 use Rattle.catalogue.specs.CheckLaws.{accepted-valid}
 use Rattle.catalogue.specs.ValidStars.{valid-length, valid-within}
-use Rattle.search.specs.declared.Setup.{Setup}
+use Rattle.fit.specs.declared.Setup.{Setup}
 use Rattle.search.specs.declared.Answer.{Answer}
 use Rattle.search.specs.declared.Identification.{Identification}
-use Rattle.search.specs.Once.{rankingOf}
-use Rattle.search.specs.Fit.{setupOf, FitsHere, problem, Input, FirstFit}
+use Rattle.fit.specs.Fit.{rankingOf, setupOf, FitsHere, problem}
+use Rattle.search.specs.First.{Input, FirstFit}
 use Rattle.search.specs.Refusals.{refusalsOf}
 use Rattle.search.specs.Identified.{refusedWith, noFit, accepted, setupFor, Searched, answerOf, Identified, padTo, foundOf, identificationOf}
-use Rattle.search.proofs.Rules.{problem-local, first-passes}
+use Rattle.fit.proofs.Rules.{problem-local, first-passes}
 use Rattle.search.proofs.Words.{zeros-at}
 use Rattle.search.proofs.Once.{good-ranked}
 use Rattle.search.proofs.Rejected.{Asked, all-accepted, accepted-ranked}
@@ -131,12 +131,14 @@ module _ (directions : List ℤ) (bytes : List ℕ) (needed tolerance : ℕ) (ws
         let g = good-ranked ws (directionsIn directions) (recordsIn bytes) (asked .good) in
         subst (λ (s : Setup). Input s ws directions (starsOf bytes)) (sym same-setup)
         (record {
-          few = d .most;
-          many = valid .size .most;
-          long-directions = omega (arith, d .threes);
-          long-stars = omega (arith, valid-length bytes valid);
-          near-directions = d .within;
-          near-stars = valid-within bytes valid;
+          lists = record {
+            few = d .most;
+            many = valid .size .most;
+            long-directions = omega (arith, d .threes);
+            long-stars = omega (arith, valid-length bytes valid);
+            near-directions = d .within;
+            near-stars = valid-within bytes valid;
+          };
           size = g .0;
           ranked = g .1;
         })

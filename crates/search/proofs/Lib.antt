@@ -3,7 +3,6 @@ pub mod Words
 pub mod Rows
 pub mod Once
 pub mod Seen
-pub mod Rules
 pub mod Rejected
 pub mod Answers
 pub mod Promise

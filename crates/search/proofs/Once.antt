@@ -15,7 +15,8 @@ use Rattle.assignment.proofs.Tests as tests
 use Rattle.assignment.proofs.Tests.{le-or-lt}
 use Rattle.assignment.proofs.Pigeon.{Into, onto}
 use Rattle.search.specs.declared.Judgement.the-variants.{Good, Bad}
-use Rattle.search.specs.Once.{rankingOf, word, clash, clashAt, judged, lentOf}
+use Rattle.fit.specs.Fit.{rankingOf}
+use Rattle.search.specs.Once.{word, clash, clashAt, judged, lentOf}
 use Rattle.search.proofs.Rows.{row-fits}
 
 -- ---- one word

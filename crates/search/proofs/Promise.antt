@@ -21,8 +21,8 @@ use Rattle.assignment.specs.Order.{Same, Before}
 use Rattle.assignment.proofs.Tests.{le-or-lt}
 use Rattle.search.specs.declared.Judgement.the-variants.{Good}
 use Rattle.search.specs.declared.Identification.{Identification}
-use Rattle.search.specs.Once.{rankingOf, lentOf}
-use Rattle.search.specs.Fit.{FitsHere}
+use Rattle.fit.specs.Fit.{rankingOf, FitsHere}
+use Rattle.search.specs.Once.{lentOf}
 use Rattle.search.specs.Refusals.{demandOk, rowsBeside, refusalsOf}
 use Rattle.search.specs.Identified.{refusedWith, noFit, accepted, setupFor, Searched, Identified}
 use Rattle.search.specs.Call.{Call}

@@ -20,7 +20,8 @@ use Rattle.catalogue.specs.Format.{recordsIn}
 use Rattle.catalogue.specs.Check as catalogue
 use Rattle.search.specs.declared.Judgement.{Judgement}
 use Rattle.search.specs.declared.Judgement.the-variants.{Good, Bad}
-use Rattle.search.specs.Once.{rankingOf, lentOf}
+use Rattle.fit.specs.Fit.{rankingOf}
+use Rattle.search.specs.Once.{lentOf}
 use Rattle.search.specs.Refusals.{demandOk, isBad, rowsBeside, refusalsOf}
 use Rattle.search.proofs.Once.{good-ranked}
 

@@ -8,7 +8,7 @@ use Rattle.direction.specs.ListLaws.{directionsIn, Directions}
 use Rattle.catalogue.specs.Format.{recordsIn}
 use Rattle.catalogue.specs.Valid.{Valid}
 use Rattle.assignment.specs.Order.{Ranked}
-use Rattle.search.specs.Once.{rankingOf}
+use Rattle.fit.specs.Fit.{rankingOf}
 
 -- a list of directions, a valid catalogue, a needed count and a tolerance in range, and a ranking whose rows name each star exactly once
 pub record Call (directions : List ℤ) (bytes : List ℕ) (needed tolerance : ℕ) (words : List ℕ) : Type 0 where

@@ -16,11 +16,10 @@ use Rattle.catalogue.specs.Format.{recordsIn}
 use Rattle.catalogue.specs.Stars.{starsOf}
 use Rattle.assignment.specs.Order.{FirstOf, at}
 use Rattle.assignment.specs.Run as run
-use Rattle.search.specs.declared.Setup.{Setup}
+use Rattle.fit.specs.declared.Setup.{Setup}
 use Rattle.search.specs.declared.Answer.{Answer}
 use Rattle.search.specs.declared.Identification.{Identification}
-use Rattle.search.specs.Once.{rankingOf}
-use Rattle.search.specs.Fit.{FitsHere, problem}
+use Rattle.fit.specs.Fit.{rankingOf, FitsHere, problem}
 use Rattle.search.specs.Refusals.{refusalsOf}
 
 -- a refused call hands over no assignment: its words are 0

@@ -1,6 +1,6 @@
 -- The definitions that the contracts cite, and what they are for.
 pub mod Once
-pub mod Fit
+pub mod First
 pub mod Refusals
 pub mod Identified
 pub mod Call

@@ -5,15 +5,10 @@ use mathlib.Core.List.{List}
 use Prim.Native.Nat.{ℕ, _+_, _*_, _/_, _%_}
 use lib.ListN.{getD, length}
 use lib.Dec.{leb, ltb, eqb}
-use Rattle.assignment.specs.Order.{Ranking}
 use Rattle.assignment.specs.Tests.{some}
 use Rattle.counting.specs.First.{first}
 use Rattle.search.specs.declared.Judgement.{Judgement}
 use Rattle.search.specs.declared.Judgement.the-variants.{Good, Bad}
-
--- a list of words as a ranking, a row after the other
-abbrev pub rankingOf : ℕ → ℕ → List ℕ → Ranking
-rankingOf dirs stars words = record { dirs = dirs; stars = stars; row = λ i k. getD words (i * stars + k) 0 }
 
 -- the word at place k of the row that starts at base
 abbrev pub word : List ℕ → ℕ → ℕ → ℕ

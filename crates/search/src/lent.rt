@@ -1,6 +1,5 @@
 // The test of a ranking that is handed in: each row names each star exactly once.
 use crate::Judgement;
-use crate::index;
 ghost use mathlib.Core.Path.{_≡_};
 ghost use Prim.Native.Nat.{_+_, _≤_};
 ghost use lib.ListN.{length};
@@ -15,7 +14,7 @@ fn fresh_words(ranking: &[u16], base: usize, stars: usize) -> usize
     let mut seen = [0u8; 512];
     let mut k = 0;
     while k < stars {
-        let star = index(ranking[base + k]);
+        let star = fit::index(ranking[base + k]);
         if stars <= star {
             return k;
         }

@@ -1,27 +1,21 @@
 // The search: which star each direction is, by a ranking that is handed in.
 mod backtrack;
-mod fit;
 mod lent;
 mod refused;
+mod row;
 
+use fit::Setup;
 use refusal::Outcome;
 ghost use mathlib.Core.Path.{_≡_};
 ghost use Rattle.search.specs.Refusals.{demandOk};
-ghost use Rattle.search.specs.Fit.{setupOf, Input, FirstFit};
-ghost use Rattle.search.specs.Identified.{answerOf, Identified};
+ghost use Rattle.fit.specs.Fit.{setupOf};
+ghost use Rattle.search.specs.First.{Input, FirstFit};
+ghost use Rattle.search.specs.Identified.{answerOf, Identified, identificationOf};
 
 // Whether a ranking that is handed in names each star once a row, or the place of its first word that does not belong.
 pub enum Judgement {
     Good,
     Bad(usize),
-}
-
-// How many directions and stars there are, how many directions need a star, and how far apart two dot products may be.
-pub struct Setup {
-    pub dirs: usize,
-    pub stars: usize,
-    pub needed: usize,
-    pub tolerance: u64,
 }
 
 // Whether an assignment was found, and its words: for each direction the star's record number, or the number of stars for none.
@@ -34,12 +28,6 @@ pub struct Answer {
 pub struct Identification {
     pub outcome: Outcome,
     pub stars: [u16; 8],
-}
-
-fn index(word: u16) -> usize
-    ensures { λ r. ⌜ r ≡ word ⌝ }
-{
-    word as usize
 }
 
 // Whether the needed count and the tolerance are in range.
@@ -66,7 +54,18 @@ fn first_fit(
         needed: needed,
         tolerance: tolerance,
     };
-    backtrack::place(ranking, directions, stars, setup, [0u16; 8], 0, 0)
+    let pairs = lookahead::pairs::marks(directions, stars, setup);
+    backtrack::place(
+        ranking,
+        directions,
+        stars,
+        setup,
+        pairs,
+        [0u16; 8],
+        [1u8; 8],
+        0,
+        0,
+    )
 }
 
 // The words of an assignment that was found, or refusal 13.
@@ -96,7 +95,7 @@ pub fn search(
     tolerance: u64,
     ranking: &[u16],
 ) -> Identification
-    ensures { λ r. ⌜ Identified (now (directions .entry)) (now (catalogue .entry)) needed tolerance (now (ranking .entry)) r ⌝ }
+    ensures { λ r. ⌜ Identified (now (directions .entry)) (now (catalogue .entry)) needed tolerance (now (ranking .entry)) r × (r ≡ identificationOf (now (directions .entry)) (now (catalogue .entry)) needed tolerance (now (ranking .entry))) ⌝ }
 {
     let outcome = refused::lowest(directions, catalogue, needed, tolerance, ranking);
     match outcome {

@@ -27,8 +27,7 @@ use Rattle.ranking.specs.RoomLaws.{Sound, sound-accepted, room-written}
 use Rattle.assignment.specs.Order.{Ranked, FirstOf}
 use Rattle.assignment.specs.Problem.{assigned}
 use Rattle.search.specs.declared.Identification.{Identification}
-use Rattle.search.specs.Once as once
-use Rattle.search.specs.Fit.{FitsHere}
+use Rattle.fit.specs.Fit.{FitsHere}
 use Rattle.search.specs.Identified.{setupFor, Searched, Identified, accepted}
 use Rattle.search.specs.Call as search
 use Rattle.search.proofs.Answers.{identified}

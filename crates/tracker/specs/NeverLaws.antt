@@ -23,7 +23,7 @@ use Rattle.attitude.specs.declared.Attitude.the-variants as attitude
 use Rattle.attitude.specs.Laws.{InRange, in-range-answer}
 use Rattle.refusal.specs.Numbers as number
 use Rattle.search.specs.Identified as sought
-use Rattle.search.specs.Fit.{problem}
+use Rattle.fit.specs.Fit.{problem}
 use Rattle.tracker.specs.declared.Settings.{Settings}
 use Rattle.tracker.specs.declared.Tracked.{Tracked}
 use Rattle.tracker.specs.Orient.{orientationOf}

@@ -16,8 +16,7 @@ use Rattle.catalogue.specs.Valid.{Valid}
 use Rattle.assignment.specs.Order.{FirstOf}
 use Rattle.assignment.specs.Problem.{assigned}
 use Rattle.search.specs.declared.Identification.{Identification}
-use Rattle.search.specs.Once as once
-use Rattle.search.specs.Fit.{FitsHere}
+use Rattle.fit.specs.Fit.{rankingOf, FitsHere}
 use Rattle.search.specs.Identified.{setupFor}
 use Rattle.tracker.specs.declared.Settings.{Settings}
 use Rattle.tracker.specs.declared.Tracked.{Tracked}
@@ -40,7 +39,7 @@ pub record Ready (report : Report) (bytes : List ℕ) (s : Settings) (room : Lis
 pub record Names (report : Report) (bytes : List ℕ) (s : Settings) (t : Tracked) : Type 0 where
   pub first :
       t .outcome ≡ Accepted
-      → FirstOf (once.rankingOf (directionsIn (sightsOf report bytes s)) (recordsIn bytes) (ourRanking report bytes s))
+      → FirstOf (rankingOf (directionsIn (sightsOf report bytes s)) (recordsIn bytes) (ourRanking report bytes s))
       (FitsHere (setupFor (sightsOf report bytes s) bytes (s .needed) (s .tolerance)) (sightsOf report bytes s) (starsOf bytes)) true (t .stars)
   pub none :
       t .outcome ≡ refusalOf number.noFit 0

@@ -3,7 +3,6 @@ use mathlib.Core.Path.{ap, _∙_}
 use Prim.Native.Nat.{ℕ}
 use Rattle.direction.specs.ListLaws.{directionsIn}
 use Rattle.catalogue.specs.Format.{recordsIn}
-use Rattle.search.proofs.Answers.{identified}
 use Rattle.exports.specs.Search.{searchNumbers}
 use Rattle.exports.proofs.Handed.{handed}
 use borrow.Author.Needs.{needs}
@@ -35,7 +34,7 @@ returns c =
     let b = a .catalogue .now in
     handed (searchNumbers (directionsIn d) (recordsIn b)) _ (c .before .hand-over .ensures)
     (o .of-search .ensures ∙ ap (λ (k : ℕ). searchNumbers (directionsIn d) k (s .search .result)) (n .records .ensures))
-    (identified d b (a .needed) (a .tolerance) (a .ranking .now) (s .search .result) (s .search .ensures))
+    (s .search .ensures .1)
 
 pub mnemathor-search-spec : {M : Type 1} → statement M
 mnemathor-search-spec =

@@ -13,9 +13,11 @@ use Rattle.catalogue.specs.Format.{recordsIn}
 use Rattle.catalogue.specs.Stars.{starsOf}
 use Rattle.catalogue.specs.Valid.{Valid}
 use Rattle.catalogue.specs.Lent.{lent-within, lent-stars}
-use Rattle.search.specs.Fit.{setupOf, Input, FirstFit}
+use Rattle.fit.specs.Fit.{setupOf}
+use Rattle.search.specs.First.{Input, FirstFit}
+use Rattle.search.specs.declared.Identification.{Identification}
 use Rattle.search.specs.Refusals.{refusalsOf}
-use Rattle.search.specs.Identified.{Identified}
+use Rattle.search.specs.Identified.{Identified, identificationOf}
 use Rattle.search.proofs.Answers as answers
 use Rattle.search.proofs.search.Statement.{statement}
 use Rattle.search.proofs.search.Tie as tie
@@ -66,17 +68,22 @@ first-fit-requires c κs =
 settled-requires : tie.Need-settled-requires
 settled-requires c κs = search needs
 
+-- whatever keeps the promise is the computed answer
+both : (directions : List ℤ) (bytes : List ℕ) (needed tolerance : ℕ) (ws : List ℕ) (r : Identification) → Identified directions bytes needed tolerance ws r → Identified directions bytes needed tolerance ws r × (r ≡ identificationOf directions bytes needed tolerance ws)
+both directions bytes needed tolerance ws r h = (h, answers.identified directions bytes needed tolerance ws r h)
+
 returns : tie.Need-returns
-returns c = answers.refused-identified _ _ _ _ _ _ (sym (c .before .before .before .lowest .ensures) ∙ c .before .outcome .given .1)
+returns c = both _ _ _ _ _ _ (answers.refused-identified _ _ _ _ _ _ (sym (c .before .before .before .lowest .ensures) ∙ c .before .outcome .given .1))
 
 returns-2 : tie.Need-returns-2
 returns-2 c =
     let n = c .before .before in
     let a = start (n .before .before .before) .args in
-    subst (Identified (a .directions .now) (a .catalogue .now) (a .needed) (a .tolerance) (a .ranking .now)) (sym (c .settled .ensures))
+    both _ _ _ _ _ _
+    (subst (Identified (a .directions .now) (a .catalogue .now) (a .needed) (a .tolerance) (a .ranking .now)) (sym (c .settled .ensures))
     (answers.searched-identified _ _ _ _ _ (accepted (n .before .before .before)) _
     (subst (λ (stars : List ℤ). FirstFit (setupOf (a .directions .now) stars (a .needed) (a .tolerance)) (a .ranking .now) (a .directions .now) stars (c .before .first-fit .result)) (lent n)
-    (c .before .first-fit .ensures)))
+    (c .before .first-fit .ensures))))
 
 pub search-spec : {M : Type 1} → statement M
 search-spec =

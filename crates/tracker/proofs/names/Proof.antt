@@ -1,6 +1,6 @@
 -- `tracker::names` meets its contract: any report's stars have directions, and the search says the rest. Assumes nothing.
 use borrow.Author.Needs.{needs}
-use mathlib.Core.Path.{_≡_, sym, ap, _∙_, subst}
+use mathlib.Core.Path.{_≡_, sym, ap, subst, _∙_}
 use mathlib.Core.List.{List}
 use Prim.Native.Nat.{ℕ, _*_}
 use native.Mathlib.Omega.{arith}
@@ -9,8 +9,7 @@ use lib.ListN.{length, take}
 use lib.Seq.{length-take-le}
 use Rattle.frame.specs.declared.Report.{Report}
 use Rattle.frame.specs.declared.Listing.{Listing}
-use Rattle.search.specs.Identified.{Identified, identificationOf}
-use Rattle.search.proofs.Answers.{identified}
+use Rattle.search.specs.Identified.{identificationOf}
 use Rattle.tracker.specs.Chain.{sightsOf, namesOf}
 use Rattle.tracker.specs.ReadyLaws.{Sighted, listing-sighted}
 use Rattle.tracker.specs.ChainLaws.{sights-array, sights-front}
@@ -65,8 +64,8 @@ returns c =
     let d = c .before .before in
     let l = listing d in
     let a = start l .args in
-    let found = subst (λ (ds : List ℤ). Identified ds (a .catalogue .now) (a .settings .needed) (a .settings .tolerance) (a .ranking .now) (c .search .result)) (front d) (c .search .ensures) in
-    identified _ _ _ _ _ (c .search .result) found
+    c .search .ensures .1
+    ∙ ap (λ (ds : List ℤ). identificationOf ds (a .catalogue .now) (a .settings .needed) (a .settings .tolerance) (a .ranking .now)) (front d)
     ∙ ap (λ (x : Listing). identificationOf (sightsOf (x .report) (a .catalogue .now) (a .settings)) (a .catalogue .now) (a .settings .needed) (a .settings .tolerance) (a .ranking .now)) (l .list .ensures)
 
 pub names-spec : {M : Type 1} → statement M

@@ -68,7 +68,7 @@ found f =
     let k = ranked f in
     let s = begin k in
     subst (λ (ds : List ℤ). Identified ds (s .args .bytes .now) (s .args .settings .needed) (s .args .settings .tolerance) (ourRanking (s .args .report) (s .args .bytes .now) (s .args .settings)) (f .search .result)) (front (records k .before))
-    (subst (λ (ws : List ℕ). Identified (take (3 * s .args .report .count) (records k .before .directions-of .result)) (s .args .bytes .now) (s .args .settings .needed) (s .args .settings .tolerance) ws (f .search .result)) (ranking-is k) (f .search .ensures))
+    (subst (λ (ws : List ℕ). Identified (take (3 * s .args .report .count) (records k .before .directions-of .result)) (s .args .bytes .now) (s .args .settings .needed) (s .args .settings .tolerance) ws (f .search .result)) (ranking-is k) (f .search .ensures .0))
 
 -- ---- the needs
 

@@ -1,0 +1,77 @@
+// The rule of fit: whether a star may stand at a direction beside the words before it. Another rule changes this crate.
+ghost use mathlib.Core.Path.{_≡_};
+ghost use Prim.Native.Nat.{_+_, _*_, _≤_, _<_};
+ghost use lib.ListN.{length};
+ghost use Rattle.numbers.specs.Within.{Within};
+ghost use Rattle.vectors.specs.Triples.{AllWithin, pairDot};
+ghost use Rattle.vectors.specs.Agree.{agreeing};
+ghost use Rattle.fit.specs.Fit.{Measured, Tested, besides};
+
+// How many directions and stars there are, how many directions need a star, and how far apart two dot products may be.
+pub struct Setup {
+    pub dirs: usize,
+    pub stars: usize,
+    pub needed: usize,
+    pub tolerance: u64,
+}
+
+// A word as an index.
+pub fn index(word: u16) -> usize
+    ensures { λ r. ⌜ r ≡ word ⌝ }
+{
+    word as usize
+}
+
+// The dot products of direction i with each of the first n, of which it is none. They serve the whole row.
+pub fn measured(directions: &[i32], i: usize, n: usize) -> [i64; 8]
+    requires { ⌜ (n ≤ i) × (i < 8) × (3 * i + 3 ≤ length (now directions)) × AllWithin 1000000000 (now directions) ⌝ }
+    ensures { λ r. ⌜ Measured (now (directions .entry)) i n r ⌝ }
+{
+    let mut dots = [0i64; 8];
+    let mut j = 0;
+    while j < n {
+        dots[j] = vectors::pair_dot(directions, j, i);
+        j += 1;
+    }
+    dots
+}
+
+// Whether a dot product of two directions agrees with that of the stars a and b.
+pub fn agrees(dot: i64, stars: &[i32], tolerance: u64, a: usize, b: usize) -> bool
+    requires { ⌜ Within 3000000000000000000 dot ⌝ }
+    requires { ⌜ (3 * a + 3 ≤ length (now stars)) × (3 * b + 3 ≤ length (now stars)) ⌝ }
+    requires { ⌜ AllWithin 1000000000 (now stars) ⌝ }
+    ensures { λ r. ⌜ r ≡ agreeing dot (pairDot (now (stars .entry)) a b) tolerance ⌝ }
+{
+    vectors::agree(dot, vectors::pair_dot(stars, a, b), tolerance)
+}
+
+// Whether the star may stand beside the first i words chosen, the newest first: none of them is this star, and each star among them agrees.
+pub fn passes(
+    stars: &[i32],
+    count: usize,
+    tolerance: u64,
+    chosen: &[u16],
+    dots: &[i64],
+    i: usize,
+    star: usize,
+) -> bool
+    requires { ⌜ Tested (now stars) count (now chosen) (now dots) i ⌝ }
+    requires { ⌜ star < count ⌝ }
+    ensures { λ r. ⌜ r ≡ besides (now (stars .entry)) count tolerance (now (dots .entry)) i (now (chosen .entry)) star ⌝ }
+{
+    let mut j = i;
+    while 0 < j {
+        j -= 1;
+        let other = index(chosen[j]);
+        if other < count {
+            if other == star {
+                return false;
+            }
+            if !agrees(dots[j], stars, tolerance, other, star) {
+                return false;
+            }
+        }
+    }
+    true
+}
