@@ -20,6 +20,7 @@ pub mod plain;
 pub mod call;
 pub mod damage;
 pub mod generate;
+pub mod hard;
 pub mod random;
 pub mod recorded;
 pub mod sky;

@@ -1,0 +1,35 @@
+//! Times the proved library against plain Rust on the same inputs, in one process.
+//!
+//! `bench` prints a row for each input, `bench PART` for those whose names have this part, and `bench scan` the worst and
+//! the median of many random searches.
+
+mod clock;
+mod frames;
+mod rankings;
+mod scan;
+mod table;
+
+use second::hard;
+use second::random::Random;
+use std::env;
+use std::process::ExitCode;
+
+fn main() -> ExitCode {
+    let equal = match env::args().nth(1).as_deref() {
+        Some("scan") => scan::run(),
+        part => rows(part.unwrap_or("")),
+    };
+    if equal {
+        ExitCode::SUCCESS
+    } else {
+        ExitCode::FAILURE
+    }
+}
+
+/// A further kind of input is one more list of names and calls.
+fn rows(part: &str) -> bool {
+    let random = Random::new(2_024);
+    let mut inputs = [frames::inputs(&random), rankings::inputs(&random), hard::searches(&random)].concat();
+    inputs.retain(|(name, _)| name.contains(part));
+    table::print(&inputs)
+}

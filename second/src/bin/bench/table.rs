@@ -1,0 +1,86 @@
+//! Times inputs and prints them as a table. Each round times the proved library and plain Rust one after the other; the
+//! best round of each counts. Both must give the same.
+
+use crate::clock::busy;
+use second::call::{Call, Entry};
+use second::{linked, plain};
+use std::hint::black_box;
+use std::time::Duration;
+
+const ROUNDS: usize = 25;
+/// A timing goes on for at least this long; short ones are less often disturbed by other work.
+const LEAST_TIME: Duration = Duration::from_millis(2);
+/// A long call has fewer rounds.
+const MOST_TIME: Duration = Duration::from_secs(4);
+
+/// Prints a row for each input; false where the two sides differ anywhere.
+pub fn print(inputs: &[(&str, Call)]) -> bool {
+    println!("{:<56} {:>10} {:>10} {:>7} {:>8}", "input", "proved ms", "plain ms", "ratio", "turns");
+    let mut equal = true;
+    for (name, call) in inputs {
+        if !same_outcome(call) {
+            println!("{name:<56} the two differ");
+            equal = false;
+            continue;
+        }
+        let (proved, plain) = best_times(call, ROUNDS);
+        let turns = turns(call).map_or(String::new(), |turns| turns.to_string());
+        println!(
+            "{name:<56} {:>10.3} {:>10.3} {:>7.2} {turns:>8}",
+            1e3 * proved,
+            1e3 * plain,
+            proved / plain
+        );
+    }
+    equal
+}
+
+pub fn same_outcome(call: &Call) -> bool {
+    let (mut proved, mut plain) = (call.lend(), call.lend());
+    let mut out = [0; 64];
+    linked::run(call, &mut proved, &mut out);
+    call.run_plain_on(&mut plain) == out && plain == proved
+}
+
+/// The best seconds a call, proved and plain, of rounds that take turns.
+pub fn best_times(call: &Call, rounds: usize) -> (f64, f64) {
+    let start = busy();
+    let mut lent = call.lend();
+    let (mut proved, mut plain) = (f64::INFINITY, f64::INFINITY);
+    for _ in 0..rounds {
+        proved = proved.min(seconds_a_call(|| {
+            let mut out = [0; 64];
+            linked::run(black_box(call), &mut lent, &mut out);
+            black_box(&out);
+        }));
+        plain = plain.min(seconds_a_call(|| {
+            black_box(black_box(call).run_plain_on(&mut lent));
+        }));
+        if busy() - start > MOST_TIME {
+            break;
+        }
+    }
+    (proved, plain)
+}
+
+fn seconds_a_call(mut call: impl FnMut()) -> f64 {
+    let start = busy();
+    let mut calls = 0;
+    while busy() - start < LEAST_TIME {
+        call();
+        calls += 1;
+    }
+    (busy() - start).as_secs_f64() / f64::from(calls)
+}
+
+/// How many stars a search places; plain Rust counts them.
+pub fn turns(call: &Call) -> Option<u64> {
+    if call.entry != Entry::Search {
+        return None;
+    }
+    let lent = call.lend();
+    let needed = call.needed as usize;
+    let answer =
+        plain::counted_search(&lent.directions, &lent.catalogue, needed, call.tolerance, &lent.ranking);
+    answer.ok().map(|(_, turns)| turns)
+}
