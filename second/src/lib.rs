@@ -19,6 +19,7 @@ pub mod plain;
 
 pub mod call;
 pub mod damage;
+pub mod dense;
 pub mod generate;
 pub mod hard;
 pub mod random;

@@ -59,7 +59,8 @@ pub fn rank(directions: &[[i128; 3]], stars: &[Star], tolerance: i128, room: &mu
     }
 }
 
-fn dot_table(vectors: &[[i128; 3]]) -> Vec<Vec<i128>> {
+/// The dot products of every two.
+pub fn dot_table(vectors: &[[i128; 3]]) -> Vec<Vec<i128>> {
     vectors.iter().map(|v| vectors.iter().map(|w| dot(v, w)).collect()).collect()
 }
 

@@ -8,7 +8,7 @@ use second::generate::{
 };
 use second::random::Random;
 use second::sky::{self, record};
-use second::{catalogue, dot, frame, ranking, root, search};
+use second::{catalogue, dense, dot, frame, ranking, root, search};
 
 #[test]
 fn root_is_the_greatest_whole_number_within() {
@@ -162,6 +162,35 @@ fn first_by_definition(
     every_assignment(directions.len(), stars.len()).into_iter().filter(fits).min_by_key(|assignment| {
         assignment.iter().enumerate().map(|(i, star)| place(i, *star)).collect::<Vec<_>>()
     })
+}
+
+#[test]
+fn dense_searches_give_the_first_assignment_that_fits() {
+    let random = Random::new(8);
+    let (mut found, mut none) = (0, 0);
+    for _ in 0..600 {
+        let (directions, stars) = random.pick(&[(3, 3), (3, 8), (4, 5), (5, 3), (5, 4)]);
+        let call = dense::search(&random, directions, stars);
+        let lent = call.lend();
+        let vectors = |numbers: &[i32]| numbers.chunks(3).map(|v| [v[0], v[1], v[2]]).collect::<Vec<_>>();
+        let known: Vec<i32> = catalogue::read(&lent.catalogue)
+            .unwrap()
+            .iter()
+            .flat_map(|star| star.direction.map(|component| component as i32))
+            .collect();
+        let rows: Vec<&[u16]> = lent.ranking.chunks(stars).collect();
+        let (needed, tolerance) = (call.needed as usize, i128::from(call.tolerance));
+        let expected =
+            first_by_definition(&vectors(&lent.directions), &vectors(&known), needed, tolerance, &rows);
+        let answer =
+            search::search(&lent.directions, &lent.catalogue, needed as i128, tolerance, &lent.ranking);
+        match &expected {
+            Some(_) => found += 1,
+            None => none += 1,
+        }
+        assert_eq!(answer.map_err(|refusal| refusal.number), expected.ok_or(13));
+    }
+    assert!(found > 100 && none > 100, "{found} found, {none} without an answer");
 }
 
 fn every_assignment(directions: usize, stars: usize) -> Vec<Assignment> {

@@ -4,6 +4,7 @@
 //! compares all 64 numbers and every lent buffer. It ends with 1 if anything differs.
 
 use second::call::{Call, Entry, Lent, ENTRIES};
+use second::dense;
 use second::generate::{any_call, Scene};
 use second::linked;
 use second::random::Random;
@@ -58,6 +59,7 @@ fn main() -> ExitCode {
                 }
             }
         }
+        run.compare(&dense::any_search(&random));
     }
     run.print_table();
     match run.differences() {
