@@ -1,5 +1,5 @@
-//! Dense searches: crowded skies and wide tolerances, where much agrees and a search has to turn back often before
-//! it knows its answer.
+//! Dense searches: crowded skies and wide tolerances, where much agrees and a search has to turn back often
+//! before it knows its answer.
 
 use crate::call::{Buffer, Call, Entry};
 use crate::generate::{flat, rising_ranking, shuffled_ranking, voted_ranking, MOST_TOLERANCE};

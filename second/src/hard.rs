@@ -1,5 +1,5 @@
-//! Searches that are hard for any exact search: 512 stars and 8 directions for which much agrees and little or
-//! nothing fits. The benchmark times them.
+//! Searches that are hard for any exact search: 512 stars and 8 directions for which much agrees and little
+//! or nothing fits. The benchmark times them.
 
 use crate::call::{Buffer, Call, Entry};
 use crate::generate::{flat, random_stars, shuffled_ranking, voted_ranking, View, MOST_TOLERANCE};
@@ -43,9 +43,9 @@ fn lone_direction(random: &Random) -> Call {
     search(random, &directions, &stars, 8, MOST_TOLERANCE)
 }
 
-/// Five directions close together, two on either side 20 degrees away, and one far off: seven have to stand, so the
-/// two on either side must, and they are last. Most stars are close together, the rest 20 degrees away on one
-/// side. With `elsewhere`, two more stars far off agree with that pair and with nothing else.
+/// Five directions close together, two on either side 20 degrees away, and one far off: seven have to stand,
+/// so the two on either side must, and they are last. Most stars are close together, the rest 20 degrees
+/// away on one side. With `elsewhere`, two more stars far off agree with that pair and with nothing else.
 fn hopeless_pair(random: &Random, elsewhere: bool) -> Call {
     let mut directions = made(5, || about(random, [0, 0], 10_000));
     directions.extend([at(SINE_20, 0, 939_693), at(-SINE_20, 0, 939_693), at(530_000, 830_000, -170_000)]);
@@ -58,9 +58,9 @@ fn hopeless_pair(random: &Random, elsewhere: bool) -> Call {
     search(random, &directions, &stars, 7, MOST_TOLERANCE)
 }
 
-/// The same directions. The stars are two dense groups 80 degrees apart and two sparse ones between them, 20 degrees
-/// from the nearer group and 40 from each other: any two directions have their stars, but beside a star of one
-/// group the far sparse one is 60 degrees away.
+/// The same directions. The stars are two dense groups 80 degrees apart and two sparse ones between them, 20
+/// degrees from the nearer group and 40 from each other: any two directions have their stars, but beside a
+/// star of one group the far sparse one is 60 degrees away.
 fn no_three(random: &Random) -> Call {
     let mut directions = made(5, || about(random, [0, 0], 5_000));
     directions.extend([at(SINE_20, 0, 939_693), at(-SINE_20, 0, 939_693), at(530_000, 830_000, -170_000)]);
@@ -72,7 +72,8 @@ fn no_three(random: &Random) -> Call {
     search(random, &directions, &stars, 7, MOST_TOLERANCE / 2)
 }
 
-/// Directions that have nothing to do with the stars, within the given reach of the axis; stars within 20 degrees.
+/// Directions that have nothing to do with the stars, within the given reach of the axis; stars within 20
+/// degrees.
 pub fn unrelated(random: &Random, needed: u64, tolerance: u64, reach: i64) -> Call {
     let directions = made(8, || in_cap(random, reach));
     let stars = made(STARS, || in_cap(random, SINE_20));

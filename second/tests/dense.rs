@@ -1,4 +1,5 @@
-//! Dense searches, in which a search has to turn back often: plain Rust gives what the wide implementation gives.
+//! Dense searches, in which a search has to turn back often: plain Rust gives what the wide implementation
+//! gives.
 
 use second::call::Call;
 use second::dense::any_search;

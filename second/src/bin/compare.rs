@@ -6,6 +6,7 @@
 use second::call::{Call, Entry, Lent, ENTRIES};
 use second::dense;
 use second::generate::{any_call, Scene};
+use second::hard::{unrelated, REACHES};
 use second::linked;
 use second::random::Random;
 use second::search::Effort;
@@ -68,8 +69,8 @@ fn main() -> ExitCode {
     }
 }
 
-/// Calls of every entry point, and a chain with as many stars as there may be, each in a thread with no more
-/// stack than a call may take: one that took more would end the program.
+/// Calls of every entry point, and a chain and a hard search with as many stars as there may be, each in a
+/// thread with no more stack than a call may take: one that took more would end the program.
 fn run_with_little_stack(random: &Random) {
     let largest = Scene {
         width: 200,
@@ -81,7 +82,8 @@ fn run_with_little_stack(random: &Random) {
         background: true,
     };
     let calls = ENTRIES.iter().flat_map(|&entry| (0..8).map(move |_| any_call(random, entry)));
-    for call in calls.chain([largest.call(random)]) {
+    let hard = unrelated(random, 5, 100_000_000_000_000, REACHES[0]);
+    for call in calls.chain([largest.call(random), hard]) {
         let (mut lent, mut out) = (call.lend(), [UNTOUCHED; 64]);
         thread::scope(|scope| {
             let builder = thread::Builder::new().stack_size(STACK);

@@ -1,4 +1,5 @@
-//! The processor time this thread has taken. Unlike the time of day it does not run while other work has the processor.
+//! The processor time this thread has taken. Unlike the time of day it does not run while other work has the
+//! processor.
 
 use std::time::Duration;
 

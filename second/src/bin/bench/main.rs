@@ -1,7 +1,7 @@
 //! Times the proved library against plain Rust on the same inputs, in one process.
 //!
-//! `bench` prints a row for each input, `bench PART` for those whose names have this part, and `bench scan` the worst and
-//! the median of many random searches.
+//! `bench` prints a row for each input, `bench PART` for those whose names have this part, and `bench scan`
+//! the worst and the median of many random searches.
 
 mod clock;
 mod frames;

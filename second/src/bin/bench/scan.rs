@@ -1,4 +1,5 @@
-//! Random searches with wide tolerances, in which much agrees and little fits: the worst and the median of each setting.
+//! Random searches with wide tolerances, in which much agrees and little fits: the worst and the median of
+//! each setting.
 
 use crate::table::{best_times, same_outcome, turns};
 use second::hard::{unrelated, REACHES};

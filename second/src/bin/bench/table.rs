@@ -1,5 +1,5 @@
-//! Times inputs and prints them as a table. Each round times the proved library and plain Rust one after the other; the
-//! best round of each counts. Both must give the same.
+//! Times inputs and prints them as a table. Each round times the proved library and plain Rust one after the
+//! other; the best round of each counts. Both must give the same.
 
 use crate::clock::busy;
 use second::call::{Call, Entry};
