@@ -6,6 +6,7 @@ use lib.Dec.{ltb}
 use lib.IntN.{ℤ}
 use Rattle.refusal.specs.Numbers.{directions, close}
 use Rattle.refusal.specs.Table.{Row, row, lowest, answered}
+use Rattle.refusal.specs.Answer.{Answer, refusedWith, acceptedWith}
 use Rattle.vectors.specs.declared.Vec3.{Vec3}
 use Rattle.vectors.specs.Vectors.{crossOf}
 use Rattle.attitude.specs.declared.Matrix.{Matrix}
@@ -41,28 +42,21 @@ matrixOf v1 v2 w1 w2 = productOf (axesOf v1 v2) (axesOf w1 w2)
 unfoldable pub attitudeOf : Vec3 → Vec3 → Vec3 → Vec3 → Attitude
 attitudeOf v1 v2 w1 w2 = answered Refused (Found (matrixOf v1 v2 w1 w2)) (lowest (refusalsOf v1 v2 w1 w2))
 
--- ---- in document 01's own terms: the number and the place of a refusal, 0 where there is none, and the entries row by row, none where refused
+-- ---- in document 01's own terms: the entries row by row
 
-pub record Answer : Type 0 where
-  pub number : ℕ
-  pub place : ℕ
-  pub entries : List ℤ
+abbrev pub entriesOf : Matrix → List ℤ
+entriesOf m =
+    m .row0 .x ∷ (m .row0 .y ∷ (m .row0 .z ∷
+    (m .row1 .x ∷ (m .row1 .y ∷ (m .row1 .z ∷
+    (m .row2 .x ∷ (m .row2 .y ∷ (m .row2 .z ∷ []))))))))
 
 abbrev pub answerOf : Attitude → Answer
-answerOf (Refused r) = record { number = r .number; place = r .place; entries = [] }
-answerOf (Found m) =
-    record {
-      number = 0;
-      place = 0;
-      entries =
-          m .row0 .x ∷ (m .row0 .y ∷ (m .row0 .z ∷
-          (m .row1 .x ∷ (m .row1 .y ∷ (m .row1 .z ∷
-          (m .row2 .x ∷ (m .row2 .y ∷ (m .row2 .z ∷ []))))))));
-    }
+answerOf (Refused r) = refusedWith (r .number) (r .place)
+answerOf (Found m) = acceptedWith (entriesOf m)
 
 -- the answer that four vectors must have
 abbrev pub answerFor : Vec3 → Vec3 → Vec3 → Vec3 → Answer
 answerFor v1 v2 w1 w2 =
-    cond (outOfRange v1 v2 w1 w2) (record { number = 8; place = 0; entries = [] })
-    (cond (eitherClose v1 v2 w1 w2) (record { number = 14; place = 0; entries = [] })
-    (answerOf (Found (matrixOf v1 v2 w1 w2))))
+    cond (outOfRange v1 v2 w1 w2) (refusedWith 8 0)
+    (cond (eitherClose v1 v2 w1 w2) (refusedWith 14 0)
+    (acceptedWith (entriesOf (matrixOf v1 v2 w1 w2))))

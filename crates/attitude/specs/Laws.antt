@@ -1,7 +1,7 @@
 -- What the attitude of four vectors comes to: which of the two refusals is given, exactly when, and how large the entries of a matrix are.
 -- Assumes nothing.
 use borrow.Author.Tests.{lt-ltb, le-ltb, ltb-true, ltb-false, eqb-false}
-use mathlib.Core.Bool.{Bool, true, false, cond, _||_, false≢true, true≢false}
+use mathlib.Core.Bool.{Bool, true, false, _||_, false≢true, true≢false}
 use mathlib.Core.List.{[], _∷_}
 use mathlib.Core.Logic.{_↔_, _⊎_, inl, inr}
 use mathlib.Core.Path.{_≡_, refl, sym, ap, _∙_, subst}
@@ -15,6 +15,7 @@ use Rattle.refusal.specs.declared.Outcome.{Outcome}
 use Rattle.refusal.specs.declared.Outcome.the-variants.{Accepted, Refused as Stopped}
 use Rattle.refusal.specs.Table.{row, lowest, answered}
 use Rattle.refusal.specs.Laws.{Silent, accepted-silent}
+use Rattle.refusal.specs.AnswerLaws.{answerBy, answered-by}
 use Rattle.vectors.specs.declared.Vec3.{Vec3}
 use Rattle.vectors.specs.Vectors.{Within3, crossOf}
 use Rattle.vectors.specs.Laws.{wider3}
@@ -83,12 +84,6 @@ abbrev pub refusedAs : ℕ → Attitude
 refusedAs n = Refused (record { number = n; place = 0 })
 
 module _ (m : Matrix) where
-  answer-is : (a b : Bool) → answerOf (given a b m) ≡ cond a (answerOf (refusedAs 8)) (cond b (answerOf (refusedAs 14)) (answerOf (Found m)))
-  unfolding lowest
-  answer-is true b = refl
-  answer-is false true = refl
-  answer-is false false = refl
-
   eight : (a b : Bool) → (answerOf (given a b m) .number ≡ 8) ↔ (a ≡ true)
   unfolding lowest
   eight true b = (λ e. refl, λ e. refl)
@@ -120,8 +115,8 @@ module _ (m : Matrix) where
 
 module _ (v1 v2 w1 w2 : Vec3) where
   pub answers : answerOf (attitudeOf v1 v2 w1 w2) ≡ answerFor v1 v2 w1 w2
-  unfolding attitudeOf
-  answers = answer-is (matrixOf v1 v2 w1 w2) (outOfRange v1 v2 w1 w2) (eitherClose v1 v2 w1 w2)
+  unfolding attitudeOf answerBy
+  answers = answered-by Refused (Found (matrixOf v1 v2 w1 w2)) answerOf _ (λ r. refl) refl (refusalsOf v1 v2 w1 w2)
 
   pub refused-8 : (answerOf (attitudeOf v1 v2 w1 w2) .number ≡ 8) ↔ (outOfRange v1 v2 w1 w2 ≡ true)
   unfolding attitudeOf

@@ -1,11 +1,13 @@
 -- A catalogue's refusals, 6 and 7 of document 01's table, and what the check of a catalogue gives. Assumes nothing.
-use mathlib.Core.Bool.{Bool, not, _&&_}
+use mathlib.Core.Bool.{Bool, cond, not, _&&_}
 use mathlib.Core.List.{List, [], _∷_}
 use Prim.Native.Nat.{ℕ, _/_, _%_}
 use lib.Dec.{leb, ltb, eqb}
+use lib.IntN.{pos}
 use lib.ListN.{length}
 use Rattle.refusal.specs.Numbers.{catalogue, recordRule}
 use Rattle.refusal.specs.Table.{Row, row, rowAt, lowest, answered}
+use Rattle.refusal.specs.Answer.{Answer, refusedWith, acceptedWith}
 use Rattle.catalogue.specs.declared.Checked.{Checked}
 use Rattle.catalogue.specs.declared.Checked.the-variants.{Refused, Records}
 use Rattle.catalogue.specs.Format.{recordSize, mostRecords, recordsIn}
@@ -29,3 +31,16 @@ refusalsOf bytes = row (not (lengthOk (length bytes))) catalogue ∷ rowAt (reco
 -- the refusal, or how many records there are
 unfoldable pub checkedOf : List ℕ → Checked
 checkedOf bytes = answered Refused (Records (recordsIn bytes)) (lowest (refusalsOf bytes))
+
+-- ---- in document 01's own terms
+
+abbrev pub answerOf : Checked → Answer
+answerOf (Refused r) = refusedWith (r .number) (r .place)
+answerOf (Records n) = acceptedWith (pos n ∷ [])
+
+-- the answer that a catalogue must have
+abbrev pub answerFor : List ℕ → Answer
+answerFor bytes =
+    cond (not (lengthOk (length bytes))) (refusedWith 6 0)
+    (cond (recordBroken bytes) (refusedWith 7 (brokenOf bytes))
+    (acceptedWith (pos (recordsIn bytes) ∷ [])))

@@ -1,6 +1,6 @@
 -- What the check of a catalogue gives, one row at a time, as the code meets them. Assumes nothing.
 use mathlib.Core.Bool.{true, false, not}
-use mathlib.Core.Path.{_≡_, ap, _∙_}
+use mathlib.Core.Path.{_≡_, refl, ap, _∙_}
 use mathlib.Core.List.{List, [], _∷_}
 use Prim.Native.Nat.{ℕ, _≤_, _<_}
 use borrow.Author.Tests.{lt-ltb, le-ltb}
@@ -10,15 +10,21 @@ use Rattle.refusal.specs.declared.Outcome.the-variants.{Accepted}
 use Rattle.refusal.specs.Numbers.{catalogue, recordRule}
 use Rattle.refusal.specs.Table.{refusalOf, rowAt, lowest, answered}
 use Rattle.refusal.specs.Laws.{lowest-here, lowest-next, silent-accepted, Silent}
+use Rattle.refusal.specs.AnswerLaws.{answerBy, answered-by}
 use Rattle.catalogue.specs.declared.Checked.the-variants.{Refused, Records}
 use Rattle.catalogue.specs.Format.{recordsIn}
-use Rattle.catalogue.specs.Check.{lengthOk, brokenOf, recordBroken, refusalsOf, checkedOf}
+use Rattle.catalogue.specs.Check.{lengthOk, brokenOf, recordBroken, refusalsOf, checkedOf, answerOf, answerFor}
 
 module _ (bytes : List ℕ) where
   -- what the check gives for an outcome
   pub checked : {o : Outcome} → lowest (refusalsOf bytes) ≡ o → checkedOf bytes ≡ answered Refused (Records (recordsIn bytes)) o
   unfolding checkedOf
   checked e = ap (λ (o : Outcome). answered Refused (Records (recordsIn bytes)) o) e
+
+  -- and in document 01's terms
+  pub answers : answerOf (checkedOf bytes) ≡ answerFor bytes
+  unfolding checkedOf refusalsOf answerBy
+  answers = answered-by Refused (Records (recordsIn bytes)) answerOf _ (λ r. refl) refl (refusalsOf bytes)
 
   pub wrong-length : lengthOk (length bytes) ≡ false → lowest (refusalsOf bytes) ≡ refusalOf catalogue 0
   unfolding refusalsOf

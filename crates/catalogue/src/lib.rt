@@ -5,7 +5,7 @@ mod rule;
 use refusal::Refusal;
 ghost use mathlib.Core.Path.{_≡_};
 ghost use Rattle.catalogue.specs.Format.{recordsIn};
-ghost use Rattle.catalogue.specs.Check.{lengthOk, checkedOf};
+ghost use Rattle.catalogue.specs.Check.{lengthOk, checkedOf, answerOf, answerFor};
 ghost use Rattle.catalogue.specs.Stars.{starsIn, starsOf, padded, identityFor};
 
 // How many bytes a record has.
@@ -44,6 +44,7 @@ fn length_ok(len: usize) -> bool
 // How many records a catalogue has, or why it is refused.
 pub fn check(bytes: &[u8]) -> Checked
     ensures { λ r. ⌜ r ≡ checkedOf (now (bytes .entry)) ⌝ }
+    ensures { λ r. ⌜ answerOf r ≡ answerFor (now (bytes .entry)) ⌝ }
 {
     if !length_ok(bytes.len()) {
         return Checked::Refused(Refusal {

@@ -1,9 +1,11 @@
 -- The direction of a position, or refusal 5. Assumes nothing.
-use mathlib.Core.Bool.{not, _&&_}
+use mathlib.Core.Bool.{cond, not, _&&_}
 use mathlib.Core.List.{List, [], _∷_}
 use lib.IntN.{ℤ, _-ℤ_}
 use Rattle.refusal.specs.Numbers.{settings}
 use Rattle.refusal.specs.Table.{Row, row, lowest, answered}
+use Rattle.refusal.specs.Answer.{Answer, refusedWith, acceptedWith}
+use Rattle.vectors.specs.declared.Vec3.{Vec3}
 use Rattle.direction.specs.declared.Direction.{Direction}
 use Rattle.direction.specs.declared.Direction.the-variants.{Refused, Found}
 use Rattle.direction.specs.Settings.{settingsOk, positionOk}
@@ -18,3 +20,18 @@ directionOf cx cy f x y = answered Refused (Found (towardOf (x -ℤ cx) (y -ℤ 
 
 abbrev pub outOfRange : Direction
 outOfRange = Refused (record { number = settings; place = 0 })
+
+-- ---- in document 01's own terms
+
+abbrev pub numbersOf : Vec3 → List ℤ
+numbersOf v = v .x ∷ (v .y ∷ (v .z ∷ []))
+
+abbrev pub answerOf : Direction → Answer
+answerOf (Refused r) = refusedWith (r .number) (r .place)
+answerOf (Found v) = acceptedWith (numbersOf v)
+
+-- the answer that settings and a position must have
+abbrev pub answerFor : ℤ → ℤ → ℤ → ℤ → ℤ → Answer
+answerFor cx cy f x y =
+    cond (not (settingsOk cx cy f && positionOk x y)) (refusedWith 5 0)
+    (acceptedWith (numbersOf (towardOf (x -ℤ cx) (y -ℤ cy) f)))

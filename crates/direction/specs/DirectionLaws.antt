@@ -9,6 +9,7 @@ use Rattle.refusal.specs.declared.Outcome.{Outcome}
 use Rattle.refusal.specs.Numbers.{settings}
 use Rattle.refusal.specs.Table.{lowest, answered}
 use Rattle.refusal.specs.Laws.{lowest-here, silent-accepted, Silent}
+use Rattle.refusal.specs.AnswerLaws.{answerBy, answered-by}
 use Rattle.vectors.specs.declared.Vec3.{Vec3}
 use Rattle.vectors.specs.Vectors.{Within3}
 use Rattle.direction.specs.declared.Direction.the-variants.{Refused, Found}
@@ -16,7 +17,7 @@ use Rattle.direction.specs.Settings.{settingsOk, positionOk}
 use Rattle.direction.specs.SettingsLaws.{Settings, Position, ok-settings, settings-ok, ok-position, position-ok}
 use Rattle.direction.specs.Position.{towardOf}
 use Rattle.direction.specs.PositionLaws.{toward-within}
-use Rattle.direction.specs.Direction.{refusalsOf, directionOf, outOfRange}
+use Rattle.direction.specs.Direction.{refusalsOf, directionOf, outOfRange, answerOf, answerFor}
 
 module _ (cx cy f x y : ℤ) where
   -- ---- one test at a time, as the code meets them
@@ -38,6 +39,12 @@ module _ (cx cy f x y : ℤ) where
   pub in-range : settingsOk cx cy f ≡ true → positionOk x y ≡ true → directionOf cx cy f x y ≡ Found (towardOf (x -ℤ cx) (y -ℤ cy) f)
   unfolding refusalsOf Silent
   in-range e g = given (silent-accepted _ (rw (e, g), tt))
+
+  -- ---- in document 01's terms
+
+  pub answers : answerOf (directionOf cx cy f x y) ≡ answerFor cx cy f x y
+  unfolding directionOf refusalsOf answerBy
+  answers = answered-by Refused (Found (towardOf (x -ℤ cx) (y -ℤ cy) f)) answerOf _ (λ r. refl) refl (refusalsOf cx cy f x y)
 
   -- ---- in plain terms
 

@@ -8,7 +8,7 @@ use vectors::Vec3;
 ghost use mathlib.Core.Path.{_≡_};
 ghost use Rattle.direction.specs.List.{listOk};
 ghost use Rattle.direction.specs.Settings.{settingsOk};
-ghost use Rattle.direction.specs.Direction.{directionOf};
+ghost use Rattle.direction.specs.Direction.{directionOf, answerOf, answerFor};
 
 // What a position's direction is, or why it is refused.
 pub enum Direction {
@@ -55,6 +55,7 @@ fn refused() -> Direction
 // The direction of a position, in 1/256 pixel.
 pub fn direction_of(cx: i64, cy: i64, focal: i64, x: i64, y: i64) -> Direction
     ensures { λ r. ⌜ r ≡ directionOf cx cy focal x y ⌝ }
+    ensures { λ r. ⌜ answerOf r ≡ answerFor cx cy focal x y ⌝ }
 {
     if !settings_ok(cx, cy, focal) {
         return refused();

@@ -1,9 +1,15 @@
 -- What the two calls on a frame give, on all inputs. Assumes nothing.
-use mathlib.Core.List.{List}
+use mathlib.Core.Bool.{cond}
+use mathlib.Core.List.{List, [], _∷_}
 use Prim.Native.Nat.{ℕ, _*_}
+use lib.IntN.{ℤ, pos}
 use Rattle.refusal.specs.Table.{lowest, answered}
-use Rattle.verdict.specs.Verdict.{verdictOf}
-use Rattle.frame.specs.Input.{frameRows, pixelRows}
+use Rattle.refusal.specs.Answer.{Answer, refusedWith, acceptedWith}
+use Rattle.verdict.specs.Verdict.{verdictOf, kindNumber}
+use Rattle.verdict.specs.declared.Kind.{Kind}
+use Rattle.verdict.specs.declared.Kind.the-variants.{Dark, Beaten, Edge, Flat, Measured}
+use Rattle.verdict.specs.declared.Verdict.{Verdict}
+use Rattle.frame.specs.Input.{sizeOut, lengthOut, thresholdOut, firstOver, sampleOut, pixelOut, frameRows, pixelRows}
 use Rattle.frame.specs.Stars.{reportOf, nothing}
 use Rattle.frame.specs.declared.Judgement.{Judgement}
 use Rattle.frame.specs.declared.Judgement.the-variants.{Refused, Judged}
@@ -21,3 +27,29 @@ listingOf samples width height threshold =
       outcome = lowest (frameRows samples width height threshold);
       report = answered (λ r. nothing) (reportOf samples width height threshold (height * width)) (lowest (frameRows samples width height threshold));
     }
+
+-- ---- the verdict's answer in document 01's own terms: row, column and kind, and for a measured pixel its position and brightness
+
+abbrev pub measuredValues : Kind → List ℤ
+measuredValues Dark = []
+measuredValues Beaten = []
+measuredValues Edge = []
+measuredValues Flat = []
+measuredValues (Measured c) = pos (c .x) ∷ (pos (c .y) ∷ (pos (c .brightness) ∷ []))
+
+abbrev pub verdictValues : Verdict → List ℤ
+verdictValues v = pos (v .row) ∷ (pos (v .column) ∷ (pos (kindNumber (v .kind)) ∷ measuredValues (v .kind)))
+
+abbrev pub answerOf : Judgement → Answer
+answerOf (Refused r) = refusedWith (r .number) (r .place)
+answerOf (Judged v) = acceptedWith (verdictValues v)
+
+-- the answer that a pixel of a frame must have
+abbrev pub answerFor : List ℕ → ℕ → ℕ → ℕ → ℕ → ℕ → Answer
+answerFor samples width height threshold row column =
+    cond (sizeOut width height) (refusedWith 1 0)
+    (cond (lengthOut samples width height) (refusedWith 2 0)
+    (cond (thresholdOut threshold) (refusedWith 3 0)
+    (cond (sampleOut samples) (refusedWith 4 (firstOver samples))
+    (cond (pixelOut width height row column) (refusedWith 15 0)
+    (acceptedWith (verdictValues (verdictOf samples width height threshold row column)))))))

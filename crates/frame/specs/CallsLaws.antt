@@ -13,6 +13,7 @@ use Rattle.counting.specs.Contradiction.{contradiction}
 use Rattle.counting.specs.Number.{one, number}
 use Rattle.refusal.specs.Table.{refusalOf, lowest, answered}
 use Rattle.refusal.specs.Laws.{Silent, Given, given-refused, refused-given, silent-accepted}
+use Rattle.refusal.specs.AnswerLaws.{answerBy, answered-by}
 use Rattle.refusal.specs.declared.Outcome.{Outcome}
 use Rattle.refusal.specs.declared.Outcome.the-variants.{Accepted}
 use Rattle.sorting.specs.Order.{pick, put, ordered}
@@ -25,7 +26,7 @@ use Rattle.verdict.specs.declared.Kind.the-variants.{Dark, Beaten, Edge, Flat, 
 use Rattle.frame.specs.Input.{frameRows, pixelRows}
 use Rattle.frame.specs.Stars.{bright, nought, isMeasured, numberOf, kindAt, starAt, measuredPixels, measuredOf, reportOf, nothing}
 use Rattle.frame.specs.StarsLaws.{star-is}
-use Rattle.frame.specs.Calls.{judgementOf, listingOf}
+use Rattle.frame.specs.Calls.{judgementOf, listingOf, answerOf, answerFor}
 use Rattle.frame.specs.declared.Judgement.the-variants.{Refused, Judged}
 
 -- ---- which refusal: the one whose row applies while none before it does (`Given`), and none exactly when no row applies (`Silent`)
@@ -69,6 +70,11 @@ module _ (samples : List ℕ) (width height threshold row column : ℕ) where
       → judgementOf samples width height threshold row column ≡ Judged (verdictOf samples width height threshold row column)
   unfolding judgementOf
   judge-accepted s = rw (silent-accepted (pixelRows samples width height threshold row column) s)
+
+  -- in document 01's terms
+  pub answers : answerOf (judgementOf samples width height threshold row column) ≡ answerFor samples width height threshold row column
+  unfolding judgementOf answerBy
+  answers = answered-by Refused (Judged (verdictOf samples width height threshold row column)) answerOf _ (λ r. refl) refl (pixelRows samples width height threshold row column)
 
 -- ---- which pixels the list has, and in which order
 

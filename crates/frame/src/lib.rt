@@ -1,6 +1,6 @@
 // A frame of samples: the verdict on one pixel, and the list of its stars with three counts.
 ghost use mathlib.Core.Path.{_≡_};
-ghost use Rattle.frame.specs.Calls.{judgementOf, listingOf};
+ghost use Rattle.frame.specs.Calls.{judgementOf, listingOf, answerOf, answerFor};
 use centroid::Centroid;
 use refusal::Outcome;
 use refusal::Refusal;
@@ -39,6 +39,7 @@ pub fn judge(
     column: usize,
 ) -> Judgement
     ensures { λ r. ⌜ r ≡ judgementOf (now (samples .entry)) width height threshold row column ⌝ }
+    ensures { λ r. ⌜ answerOf r ≡ answerFor (now (samples .entry)) width height threshold row column ⌝ }
 {
     let outcome = check::pixel_outcome(samples, width, height, threshold, row, column);
     match outcome {

@@ -13,6 +13,8 @@ use Rattle.refusal.specs.declared.Outcome.{Outcome}
 use Rattle.refusal.specs.declared.Outcome.the-variants.{Accepted, Refused}
 use Rattle.refusal.specs.Table.{lowest}
 use Rattle.refusal.specs.Laws.{Silent, accepted-silent}
+use Rattle.refusal.specs.Answer.{answerOf}
+use Rattle.refusal.specs.AnswerLaws.{answerBy, outcome-by}
 use Rattle.direction.specs.List.{listOk}
 use Rattle.direction.specs.ListLaws.{directionsIn, Directions, ok-directions, directions-ok}
 use Rattle.catalogue.specs.Format.{recordsIn}
@@ -26,7 +28,7 @@ use Rattle.ranking.specs.Ranking.{rankingOf}
 use Rattle.ranking.specs.Laws.{Ranks, ranks}
 use Rattle.ranking.specs.Refusals.{toleranceOk, rowsBeside, refusalsOf}
 use Rattle.ranking.specs.RefusalSteps.{none-refused, outcome-joined}
-use Rattle.ranking.specs.Room.{rankOutcomeOf, roomAfter}
+use Rattle.ranking.specs.Room.{rankOutcomeOf, roomAfter, answerFor}
 
 -- the call keeps every rule
 pub record Sound (directions : List ℤ) (bytes : List ℕ) (tolerance words : ℕ) : Type 0 where
@@ -75,6 +77,11 @@ module _ (directions : List ℤ) (bytes : List ℕ) (tolerance words : ℕ) wher
     directions-listed = record { few = s .list .most; near = s .list .within }
 
 module _ (directions : List ℤ) (bytes : List ℕ) (tolerance : ℕ) (room : List ℕ) where
+  -- the outcome in document 01's terms
+  pub answers : answerOf (rankOutcomeOf directions bytes tolerance room) ≡ answerFor directions bytes tolerance room
+  unfolding rankOutcomeOf refusalsOf rowsBeside catalogue.refusalsOf answerBy
+  answers = outcome-by (refusalsOf directions bytes tolerance (length room))
+
   -- a refusal leaves the room as found
   pub room-kept : (r : Refusal) → rankOutcomeOf directions bytes tolerance room ≡ Refused r → roomAfter directions bytes tolerance room ≡ room
   unfolding roomAfter

@@ -9,7 +9,8 @@ ghost use Prim.Native.Nat.{_*_, _<_, _≤_};
 ghost use lib.ListN.{length, drop};
 ghost use Rattle.vectors.specs.Triples.{triples, Listed};
 ghost use Rattle.ranking.specs.Ranking.{rowOf, rankingOf};
-ghost use Rattle.ranking.specs.Room.{rankOutcomeOf, roomAfter};
+ghost use Rattle.refusal.specs.Answer.{answerOf};
+ghost use Rattle.ranking.specs.Room.{rankOutcomeOf, roomAfter, answerFor};
 
 // One row: the votes for direction i are collected, and the stars ranked by them.
 fn write_row(directions: &[i32], stars: &[i32], tolerance: u64, i: usize, row: &mut [u16])
@@ -44,6 +45,7 @@ fn write_ranking(directions: &[i32], stars: &[i32], tolerance: u64, room: &mut [
 pub fn rank(directions: &[i32], catalogue: &[u8], tolerance: u64, room: &mut [u16]) -> Outcome
     ensures { λ r. ⌜ r ≡ rankOutcomeOf (now (directions .entry)) (now (catalogue .entry)) tolerance (now (room .entry)) ⌝ }
     ensures { λ r. ⌜ now (room .exit) ≡ roomAfter (now (directions .entry)) (now (catalogue .entry)) tolerance (now (room .entry)) ⌝ }
+    ensures { λ r. ⌜ answerOf r ≡ answerFor (now (directions .entry)) (now (catalogue .entry)) tolerance (now (room .entry)) ⌝ }
 {
     let outcome = refused::lowest(directions, catalogue, tolerance, room.len());
     match outcome {

@@ -2,3 +2,5 @@
 pub mod Numbers
 pub mod Table
 pub mod Laws
+pub mod Answer
+pub mod AnswerLaws

@@ -1,4 +1,5 @@
 -- The numbers of document 01's table, by the names that the code has for them. Assumes nothing.
+use mathlib.Core.List.{List, [], _∷_}
 use Prim.Native.Nat.{ℕ}
 
 abbrev pub size : ℕ
@@ -45,3 +46,9 @@ close = 14
 
 abbrev pub pixel : ℕ
 pixel = 15
+
+-- all of them, in their order
+abbrev pub inOrder : List ℕ
+inOrder =
+    size ∷ samples ∷ threshold ∷ sample ∷ settings ∷ catalogue ∷ recordRule ∷ directions ∷
+    demand ∷ room ∷ ranking ∷ few ∷ noFit ∷ close ∷ pixel ∷ []

@@ -1,5 +1,7 @@
-// Number and place of a refusal: document 01's table. A later number is one constant here, one in specs/Numbers, and a row where it is given.
+// Number and place of a refusal: document 01's table. A later number is one constant here, one in specs/Numbers, its place in both lists, and
+// a row where it is given.
 ghost use mathlib.Core.Path.{_≡_};
+ghost use Rattle.refusal.specs.Numbers.{inOrder};
 ghost use Rattle.refusal.specs.Table.{refusalOf};
 ghost use Rattle.refusal.specs.Table.{otherwise as firstRefusal};
 
@@ -33,6 +35,29 @@ pub const NO_FIT: u32 = 13;
 pub const CLOSE: u32 = 14;
 // The pixel asked for is outside the frame.
 pub const PIXEL: u32 = 15;
+
+// All of them in the table's order, each the number that specs/Numbers has under its name.
+pub fn numbers_in_order() -> [u32; 15]
+    ensures { λ r. ⌜ r ≡ inOrder ⌝ }
+{
+    [
+        SIZE,
+        SAMPLES,
+        THRESHOLD,
+        SAMPLE,
+        SETTINGS,
+        CATALOGUE,
+        RECORD,
+        DIRECTIONS,
+        DEMAND,
+        ROOM,
+        RANKING,
+        FEW,
+        NO_FIT,
+        CLOSE,
+        PIXEL,
+    ]
+}
 
 pub struct Refusal {
     pub number: u32,

@@ -5,11 +5,13 @@ use borrow.Author.Tests.{not-true, not-false}
 use lib.Dec.{lit<}
 use mir.Syntax.{w64}
 use Rattle.numbers.specs.Num.{Num, param, arg, sub, fits, back, near, above}
+use Rattle.direction.specs.declared.Direction.{Direction}
 use Rattle.direction.specs.declared.Direction.the-variants.{Found}
 use Rattle.direction.specs.Settings.{settingsOk, positionOk}
 use Rattle.direction.specs.SettingsLaws.{Settings, Position, ok-settings, ok-position, between-within, between-positive}
 use Rattle.direction.specs.Position.{towardOf}
-use Rattle.direction.specs.DirectionLaws.{settings-out, position-out, in-range}
+use Rattle.direction.specs.Direction.{directionOf, answerOf, answerFor}
+use Rattle.direction.specs.DirectionLaws.{settings-out, position-out, in-range, answers}
 use borrow.Author.Needs.{needs}
 use Rattle.direction.proofs.direction_of.Statement.{statement}
 use Rattle.direction.proofs.direction_of.Tie as tie
@@ -47,6 +49,14 @@ Y c = sub (arg (between-within _ _ (placed c .down)) tt) (arg (between-within _ 
 abbrev F : tie.Else2 → Num w64
 F c = arg (between-within _ _ (set c .focal)) tt
 
+-- the second promise follows from the first
+module _ (s : tie.Start) where
+  abbrev direction : Direction
+  direction = directionOf (s .args .cx) (s .args .cy) (s .args .focal) (s .args .x) (s .args .y)
+
+  both : {r : Direction} → r ≡ direction → (r ≡ direction) × (answerOf r ≡ answerFor (s .args .cx) (s .args .cy) (s .args .focal) (s .args .x) (s .args .y))
+  both e = (e, ap (λ (d : Direction). answerOf d) e ∙ answers (s .args .cx) (s .args .cy) (s .args .focal) (s .args .x) (s .args .y))
+
 settings-ok-requires : tie.Need-settings-ok-requires
 settings-ok-requires c κs = search needs
 
@@ -54,7 +64,9 @@ refused-requires : tie.Need-refused-requires
 refused-requires c κs = search needs
 
 returns : tie.Need-returns
-returns c = c .refused .ensures ∙ sym (settings-out _ _ _ _ _ (sym (settings-tested (c .before .before)) ∙ not-true _ (c .before .if1 .taken)))
+returns c =
+    both (c .before .before .before)
+    (c .refused .ensures ∙ sym (settings-out _ _ _ _ _ (sym (settings-tested (c .before .before)) ∙ not-true _ (c .before .if1 .taken))))
 
 position-ok-requires : tie.Need-position-ok-requires
 position-ok-requires c κs = search needs
@@ -63,7 +75,9 @@ refused-requires-2 : tie.Need-refused-requires-2
 refused-requires-2 c κs = search needs
 
 returns-2 : tie.Need-returns-2
-returns-2 c = c .refused2 .ensures ∙ sym (position-out _ _ _ _ _ (sym (position-tested (c .before .before)) ∙ not-true _ (c .before .if2 .taken)))
+returns-2 c =
+    both (c .before .before .before .before .before)
+    (c .refused2 .ensures ∙ sym (position-out _ _ _ _ _ (sym (position-tested (c .before .before)) ∙ not-true _ (c .before .if2 .taken))))
 
 sub-toward : tie.Need-sub-toward
 sub-toward c = fits (X c)
@@ -78,7 +92,7 @@ returns-3 : tie.Need-returns-3
 returns-3 c =
     let p = c .before in
     let e = c .toward .ensures ∙ (λ i. towardOf (back (X p) i) (back (Y p) i) (back (F p) i)) in
-    ap Found e ∙ sym (in-range _ _ _ _ _ (settings-in (p .before .before)) (position-in p))
+    both (p .before .before .before .before) (ap Found e ∙ sym (in-range _ _ _ _ _ (settings-in (p .before .before)) (position-in p)))
 
 pub direction-of-spec : {M : Type 1} → statement M
 direction-of-spec =

@@ -19,7 +19,7 @@ same-length c = search needs
 
 returns : tie.Need-returns
 returns c =
-    handed catalogueNumbers _ (c .before .hand-over .ensures) (c .before .before .of-catalogue .ensures) (c .before .before .before .check .ensures)
+    handed catalogueNumbers _ (c .before .hand-over .ensures) (c .before .before .of-catalogue .ensures) (c .before .before .before .check .ensures .0)
 
 pub mnemathor-catalogue-spec : {M : Type 1} → statement M
 mnemathor-catalogue-spec =

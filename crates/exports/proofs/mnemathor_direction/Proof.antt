@@ -25,7 +25,7 @@ returns c =
     let d = c .before .before .before in
     let s = d .before .before .fits in
     handed directionNumbers _ (c .before .hand-over .ensures) (c .before .before .of-direction .ensures)
-    (d .direction-of .ensures ∙ (λ i. directionOf (back (param (s .cx)) i) (back (param (s .cy)) i) (back (param (s .f)) i) (back (param (s .x)) i) (back (param (s .y)) i)))
+    (d .direction-of .ensures .0 ∙ (λ i. directionOf (back (param (s .cx)) i) (back (param (s .cy)) i) (back (param (s .f)) i) (back (param (s .x)) i) (back (param (s .y)) i)))
 
 pub mnemathor-direction-spec : {M : Type 1} → statement M
 mnemathor-direction-spec =

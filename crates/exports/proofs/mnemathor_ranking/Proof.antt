@@ -23,7 +23,7 @@ same-length-2 c = search needs
 returns : tie.Need-returns
 returns c =
     let r = c .before .before .before .before .before .before .rank in
-    (r .ensures .1, handed rankingNumbers _ (c .before .hand-over .ensures) (c .before .before .of-ranking .ensures) (r .ensures .0))
+    (r .ensures .1 .0, handed rankingNumbers _ (c .before .hand-over .ensures) (c .before .before .of-ranking .ensures) (r .ensures .0))
 
 pub mnemathor-ranking-spec : {M : Type 1} → statement M
 mnemathor-ranking-spec =

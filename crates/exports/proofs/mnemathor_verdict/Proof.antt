@@ -19,7 +19,7 @@ same-length c = search needs
 
 returns : tie.Need-returns
 returns c =
-    handed verdictNumbers _ (c .before .hand-over .ensures) (c .before .before .of-verdict .ensures) (c .before .before .before .before .judge .ensures)
+    handed verdictNumbers _ (c .before .hand-over .ensures) (c .before .before .of-verdict .ensures) (c .before .before .before .before .judge .ensures .0)
 
 pub mnemathor-verdict-spec : {M : Type 1} → statement M
 mnemathor-verdict-spec =

@@ -1,10 +1,21 @@
 -- `frame::judge` meets its contract: an accepted call has passed what the verdict asks. Assumes nothing.
 use borrow.Author.Needs.{needs}
-use mathlib.Core.Path.{sym, _∙_}
+use mathlib.Core.Path.{_≡_, sym, ap, _∙_}
 use Rattle.frame.specs.InputLaws.{accepted-pixel}
-use Rattle.frame.specs.Calls.{judgementOf}
+use Rattle.frame.specs.Calls.{judgementOf, answerOf, answerFor}
+use Rattle.frame.specs.CallsLaws.{answers}
+use Rattle.frame.specs.declared.Judgement.{Judgement}
 use Rattle.frame.proofs.judge.Statement.{statement}
 use Rattle.frame.proofs.judge.Tie as tie
+
+-- the second promise follows from the first
+module _ (s : tie.Start) where
+  abbrev judgement : Judgement
+  judgement = judgementOf (s .args .samples .now) (s .args .width) (s .args .height) (s .args .threshold) (s .args .row) (s .args .column)
+
+  both : {r : Judgement} → r ≡ judgement
+      → (r ≡ judgement) × (answerOf r ≡ answerFor (s .args .samples .now) (s .args .width) (s .args .height) (s .args .threshold) (s .args .row) (s .args .column))
+  both e = (e, ap (λ (j : Judgement). answerOf j) e ∙ answers (s .args .samples .now) (s .args .width) (s .args .height) (s .args .threshold) (s .args .row) (s .args .column))
 
 pixel-outcome-requires : tie.Need-pixel-outcome-requires
 pixel-outcome-requires c κs = search needs
@@ -23,11 +34,13 @@ verdict-at-requires c κs =
 
 returns : tie.Need-returns
 unfolding judgementOf
-returns c = rw (sym (c .before .before .before .pixel-outcome .ensures) ∙ c .before .outcome .given .1)
+returns c = both (c .before .before .before .before .before) (rw (sym (c .before .before .before .pixel-outcome .ensures) ∙ c .before .outcome .given .1))
 
 returns-2 : tie.Need-returns-2
 unfolding judgementOf
-returns-2 c = rw (sym (c .before .before .before .pixel-outcome .ensures) ∙ c .before .enum-told .given .1, c .verdict-at .ensures)
+returns-2 c =
+    both (c .before .before .before .before .before)
+    (rw (sym (c .before .before .before .pixel-outcome .ensures) ∙ c .before .enum-told .given .1, c .verdict-at .ensures))
 
 pub judge-spec : {M : Type 1} → statement M
 judge-spec =

@@ -7,7 +7,9 @@ use native.Mathlib.Omega.{arith}
 use lib.IntN.{ℤ}
 use lib.ListN.{length, take, drop}
 use lib.Seq.{length-take-le}
+use Rattle.refusal.specs.declared.Outcome.{Outcome}
 use Rattle.refusal.specs.declared.Outcome.the-variants.{Accepted}
+use Rattle.refusal.specs.Answer.{answerOf}
 use Rattle.refusal.specs.Table.{lowest}
 use Rattle.catalogue.specs.Format.{recordsIn}
 use Rattle.catalogue.specs.Stars.{starsOf}
@@ -15,8 +17,8 @@ use Rattle.catalogue.specs.Valid.{Valid}
 use Rattle.catalogue.specs.Lent.{lent-within, lent-stars}
 use Rattle.vectors.specs.Triples.{triples, Listed}
 use Rattle.ranking.specs.Ranking.{rankingOf}
-use Rattle.ranking.specs.Room.{rankOutcomeOf}
-use Rattle.ranking.specs.RoomLaws.{Sound, accepted-sound, stars-counted, stars-listed, directions-listed, room-kept, room-written}
+use Rattle.ranking.specs.Room.{rankOutcomeOf, answerFor}
+use Rattle.ranking.specs.RoomLaws.{Sound, answers, accepted-sound, stars-counted, stars-listed, directions-listed, room-kept, room-written}
 use Rattle.ranking.proofs.rank.Statement.{statement}
 use Rattle.ranking.proofs.rank.Tie as tie
 
@@ -30,6 +32,13 @@ accepted c = sym (c .before .before .lowest .ensures) ∙ c .enum-told .given .1
 sound : (c : tie.After-enum-told) → let a = start c .args in Sound (a .directions .now) (a .catalogue .now) (a .tolerance) (length (a .room .now))
 unfolding rankOutcomeOf
 sound c = accepted-sound _ _ _ _ (accepted c)
+
+-- the answer in document 01's terms follows from the outcome
+in-terms : {o : Outcome} (s : tie.Start)
+    → let a = s .args in
+    o ≡ rankOutcomeOf (a .directions .now) (a .catalogue .now) (a .tolerance) (a .room .now)
+    → answerOf o ≡ answerFor (a .directions .now) (a .catalogue .now) (a .tolerance) (a .room .now)
+in-terms s e = let a = s .args in ap (λ (o : Outcome). answerOf o) e ∙ answers (a .directions .now) (a .catalogue .now) (a .tolerance) (a .room .now)
 
 lowest-requires : tie.Need-lowest-requires
 lowest-requires c κs = search needs
@@ -75,9 +84,10 @@ write-ranking-requires c κs =
 returns : tie.Need-returns
 unfolding rankOutcomeOf
 returns c =
-    let a = c .before .before .before .before .before .before .args in
+    let s = c .before .before .before .before .before .before in
+    let a = s .args in
     let e = sym (c .before .before .before .lowest .ensures) ∙ c .before .outcome .given .1 in
-    (sym e, sym (room-kept (a .directions .now) (a .catalogue .now) (a .tolerance) (a .room .now) _ e))
+    (sym e, (sym (room-kept (a .directions .now) (a .catalogue .now) (a .tolerance) (a .room .now) _ e), in-terms s (sym e)))
 
 same-length : tie.Need-same-length
 same-length c = search needs
@@ -90,9 +100,12 @@ returns-2 c =
     let a = start t .args in
     let written : List ℤ → ℕ → List ℕ = λ stars m. rankingOf (a .directions .now) stars (a .tolerance) ++ drop m (a .room .now) in (
       sym (accepted t),
-      w .write-ranking .ensures ∙ ap (λ (stars : List ℤ). written stars (triples (a .directions .now) * triples stars)) (lent n)
-          ∙ ap (written (starsOf (a .catalogue .now))) (words t)
-          ∙ sym (room-written (a .directions .now) (a .catalogue .now) (a .tolerance) (a .room .now) (accepted t)),
+      (
+        w .write-ranking .ensures ∙ ap (λ (stars : List ℤ). written stars (triples (a .directions .now) * triples stars)) (lent n)
+            ∙ ap (written (starsOf (a .catalogue .now))) (words t)
+            ∙ sym (room-written (a .directions .now) (a .catalogue .now) (a .tolerance) (a .room .now) (accepted t)),
+        in-terms (start t) (sym (accepted t)),
+      ),
     )
 
 pub rank-spec : {M : Type 1} → statement M

@@ -21,16 +21,16 @@ enum-known-checked-2 c = search needs
 
 beside-requires : tie.Need-beside-requires
 beside-requires c κs =
-    let v = checked-valid _ _ (sym (c .before .before .before .check .ensures) ∙ c .before .checked2 .given .1) in
+    let v = checked-valid _ _ (sym (c .before .before .before .check .ensures .0) ∙ c .before .checked2 .given .1) in
     omega (arith, v .0 .size .most, v .1)
 
 returns : tie.Need-returns
-returns c = sym (outcome-joined _ _ _ _ (checked-refused _ _ (sym (c .before .before .before .check .ensures) ∙ c .before .checked .given .1)))
+returns c = sym (outcome-joined _ _ _ _ (checked-refused _ _ (sym (c .before .before .before .check .ensures .0) ∙ c .before .checked .given .1)))
 
 returns-2 : tie.Need-returns-2
 returns-2 c =
     let a = c .before .before .before .before .before .before .args in
-    let v = checked-valid _ _ (sym (c .before .before .before .before .check .ensures) ∙ c .before .before .checked2 .given .1) in
+    let v = checked-valid _ _ (sym (c .before .before .before .before .check .ensures .0) ∙ c .before .before .checked2 .given .1) in
     c .beside .ensures
     ∙ ap (λ (n : ℕ). lowest (rowsBeside (a .directions .now) n (a .tolerance) (a .words))) (v .1)
     ∙ sym (outcome-joined _ _ _ _ (valid-accepted _ (v .0)))

@@ -15,10 +15,10 @@ enum-told : tie.Need-enum-told
 enum-told c = search needs
 
 returns : tie.Need-returns
-returns c = sym (checked-refused _ _ (sym (c .before .before .before .check .ensures) ∙ c .before .r .given .1))
+returns c = sym (checked-refused _ _ (sym (c .before .before .before .check .ensures .0) ∙ c .before .r .given .1))
 
 returns-2 : tie.Need-returns-2
-returns-2 c = sym (valid-accepted _ (checked-valid _ _ (sym (c .before .before .check .ensures) ∙ c .enum-told .given .1) .0))
+returns-2 c = sym (valid-accepted _ (checked-valid _ _ (sym (c .before .before .check .ensures .0) ∙ c .enum-told .given .1) .0))
 
 pub catalogue-outcome-spec : {M : Type 1} → statement M
 catalogue-outcome-spec = tie.close (tie.spec check-requires enum-known-r enum-told returns returns-2)

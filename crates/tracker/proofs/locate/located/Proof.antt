@@ -48,7 +48,7 @@ begin k = start (records k .before)
 room-is : (k : tie.After-rank) → k .rank .last .1 .1 .1 .0 ≡ rankedRoom (begin k .args .report) (begin k .args .bytes .now) (begin k .args .settings) (begin k .args .room .now)
 room-is k =
     let s = begin k in
-    k .rank .ensures .1
+    k .rank .ensures .1 .0
     ∙ ap (λ (ds : List ℤ). roomAfter ds (s .args .bytes .now) (s .args .settings .tolerance) (s .args .room .now)) (front (records k .before))
     ∙ laws.room-ranked _ _ _ _ (s .pre)
 

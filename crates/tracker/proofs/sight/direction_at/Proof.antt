@@ -28,7 +28,7 @@ direction-is c =
     let u = back (held {w = w64} (s .cx) (g .1 .1 .1 .1 .0 .1)) in
     let v = back (held {w = w64} (s .cy) (g .1 .1 .1 .1 .1 .0 .1)) in
     let f = back (held {w = w64} (s .focal) (g .1 .1 .1 .1 .1 .1 .0 .1)) in
-    ap vectorOf (c .direction-of .ensures ∙ (λ i. directionOf (u i) (v i) (f i) (x i) (y i)))
+    ap vectorOf (c .direction-of .ensures .0 ∙ (λ i. directionOf (u i) (v i) (f i) (x i) (y i)))
 
 cast-x : tie.Need-cast-x
 cast-x c = search needs
