@@ -1,0 +1,65 @@
+// Lines of text as bytes in a lent room: words and numbers in decimal, one behind the other. A place is handed in and the next one comes back, so a line is a
+// run of calls. What does not fit is cut at the room's end.
+ghost use mathlib.Core.List.{[], _∷_, _++_};
+ghost use Prim.Native.Nat.{_+_, _≤_};
+ghost use lib.ListN.{length};
+ghost use Rattle.text.specs.Decimal.{decimal, signedDecimal};
+ghost use Rattle.text.specs.Written.{Wrote};
+
+// Puts one byte at a place.
+fn byte(room: &mut [u8], at: usize, b: u8) -> usize
+    ensures { λ r. ⌜ Wrote (now (room .entry)) at (b ∷ []) (now (room .exit)) r ⌝ }
+{
+    if at < room.len() {
+        room[at] = b;
+        return at + 1;
+    }
+    at
+}
+
+// Puts a word at a place.
+pub fn word(room: &mut [u8], at: usize, bytes: &[u8]) -> usize
+    ensures { λ r. ⌜ Wrote (now (room .entry)) at (now (bytes .entry)) (now (room .exit)) r ⌝ }
+{
+    let mut next = at;
+    let mut i: usize = 0;
+    while i < bytes.len() {
+        next = byte(room, next, bytes[i]);
+        i += 1;
+    }
+    next
+}
+
+// Puts a number at a place, in decimal. Its tenth stands before its last digit.
+pub fn number(room: &mut [u8], at: usize, n: u64) -> usize
+    ensures { λ r. ⌜ Wrote (now (room .entry)) at (decimal n) (now (room .exit)) r ⌝ }
+    ensures { λ r. ⌜ r ≤ at + 20 ⌝ }
+{
+    if n < 10 {
+        return byte(room, at, 48 + n as u8);
+    }
+    let next = number(room, at, n / 10);
+    byte(room, next, 48 + (n % 10) as u8)
+}
+
+// Puts a signed number at a place: "-" before the size of one below zero.
+pub fn signed(room: &mut [u8], at: usize, z: i64) -> usize
+    ensures { λ r. ⌜ Wrote (now (room .entry)) at (signedDecimal z) (now (room .exit)) r ⌝ }
+    ensures { λ r. ⌜ r ≤ at + 21 ⌝ }
+{
+    let size = numbers::abs(z);
+    if z < 0 {
+        let next = byte(room, at, 45);
+        return number(room, next, size);
+    }
+    number(room, at, size)
+}
+
+// Puts a word and the number behind it.
+pub fn labelled(room: &mut [u8], at: usize, bytes: &[u8], n: u64) -> usize
+    ensures { λ r. ⌜ Wrote (now (room .entry)) at (now (bytes .entry) ++ decimal n) (now (room .exit)) r ⌝ }
+    ensures { λ r. ⌜ r ≤ at + length (now (bytes .entry)) + 20 ⌝ }
+{
+    let next = word(room, at, bytes);
+    number(room, next, n)
+}
