@@ -2,8 +2,8 @@
 use mathlib.Core.Bool.{Bool, true, false, cond, _&&_, and-eq-true-iff}
 use mathlib.Core.List.{List, [], _∷_, _++_}
 use mathlib.Core.Path.{_≡_, refl}
-use borrow.Author.Tests.{leb-true, eqb-true}
-use Prim.Native.Nat.{ℕ, zero, suc, _+_, _*_, _≤_}
+use borrow.Author.Tests.{leb-true, eqb-true, le-leb, lt-leb}
+use Prim.Native.Nat.{ℕ, zero, suc, _+_, _*_, _≤_, _<_}
 use native.Mathlib.Omega.{arith}
 use native.Mathlib.Numerals.{add-one}
 use lib.Dec.{leb, eqb}
@@ -14,6 +14,18 @@ use Rattle.files.specs.Number.{numberAt}
 unfoldable pub sampleCount : ℕ → ℕ → ℕ → ℕ
 sampleCount len width height =
     cond (leb width 1024 && leb height 1024 && eqb len (2 * (width * height)) && leb (width * height) 32000) (width * height) 0
+
+-- a room that is too short for all of them gets none
+unfoldable pub takenInto : ℕ → ℕ → ℕ
+takenInto room n = cond (leb n room) n 0
+
+pub taken-whole : (room n : ℕ) → n ≤ room → takenInto room n ≡ n
+unfolding takenInto
+taken-whole room n h = rw (le-leb n room h)
+
+pub taken-none : (room n : ℕ) → room < n → takenInto room n ≡ 0
+unfolding takenInto
+taken-none room n h = rw (lt-leb n room h)
 
 -- the first n samples
 unfoldable pub samplesOf : List ℕ → ℕ → List ℕ

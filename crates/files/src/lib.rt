@@ -7,7 +7,7 @@ ghost use lib.ListN.{length, drop};
 ghost use mathlib.Core.List.{_++_};
 ghost use Rattle.files.specs.Number.{numberAt};
 ghost use Rattle.files.specs.Settings.{readingOf};
-ghost use Rattle.files.specs.Samples.{sampleCount, samplesOf};
+ghost use Rattle.files.specs.Samples.{sampleCount, takenInto, samplesOf};
 
 // The most samples that the program takes.
 pub const MOST_SAMPLES: usize = 32000;
@@ -86,14 +86,15 @@ fn sample_count(len: usize, width: usize, height: usize) -> usize
 }
 
 // Puts the samples of a frame file at the start of the room, leaves the rest of it as it is, and answers how many there are. A file of the wrong size
-// gives none, which the library refuses with 2 where the width and the height are in range.
+// gives none, which the library refuses with 2 where the width and the height are in range; so does a room that is too short for all of them.
 pub fn read_samples(bytes: &[u8], width: usize, height: usize, room: &mut [u16]) -> usize
-    requires { ⌜ length (now room) ≡ 32000 ⌝ }
-    ensures { λ r. ⌜ r ≡ sampleCount (length (now (bytes .entry))) width height ⌝ }
+    ensures { λ r. ⌜ r ≡ takenInto (length (now (room .entry))) (sampleCount (length (now (bytes .entry))) width height) ⌝ }
     ensures { λ r. ⌜ now (room .exit) ≡ samplesOf (now (bytes .entry)) r ++ drop r (now (room .entry)) ⌝ }
-    ensures { λ r. ⌜ (r ≤ 32000) × (length (now (room .exit)) ≡ 32000) ⌝ }
 {
     let count = sample_count(bytes.len(), width, height);
+    if room.len() < count {
+        return 0;
+    }
     let mut i: usize = 0;
     while i < count {
         room[i] = number(bytes, 2 * i, 2) as u16;

@@ -36,10 +36,10 @@ pub fn number(room: &mut [u8], at: usize, n: u64) -> usize
     ensures { λ r. ⌜ r ≤ at + 20 ⌝ }
 {
     if n < 10 {
-        return byte(room, at, 48 + n as u8);
+        return byte(room, at, b'0' + n as u8);
     }
     let next = number(room, at, n / 10);
-    byte(room, next, 48 + (n % 10) as u8)
+    byte(room, next, b'0' + (n % 10) as u8)
 }
 
 // Puts a signed number at a place: "-" before the size of one below zero.
@@ -49,7 +49,7 @@ pub fn signed(room: &mut [u8], at: usize, z: i64) -> usize
 {
     let size = numbers::abs(z);
     if z < 0 {
-        let next = byte(room, at, 45);
+        let next = byte(room, at, b'-');
         return number(room, next, size);
     }
     number(room, at, size)

@@ -8,7 +8,7 @@ use native.Mathlib.Omega.{arith}
 use lib.ListN.{length, drop, set, getD, length-set}
 use lib.Seq.{drop-cons, set-at, append-snoc}
 use Rattle.files.specs.Number.{numberAt}
-use Rattle.files.specs.Samples.{sampleCount, samplesOf, samples-next, samples-length, count-fits}
+use Rattle.files.specs.Samples.{sampleCount, takenInto, taken-whole, taken-none, samplesOf, samples-next, samples-length, count-fits}
 use Rattle.files.proofs.read_samples.Statement.{statement}
 use Rattle.files.proofs.read_samples.Tie as tie
 
@@ -17,8 +17,8 @@ Inv-loop bytes width height room₀ count i₀ room i =
     (i ≤ count)
     × (2 * count ≤ length bytes)
     × (count ≤ 32000)
-    × (length room ≡ 32000)
-    × (length room₀ ≡ 32000)
+    × (length room ≡ length room₀)
+    × (count ≤ length room₀)
     × (room ≡ samplesOf bytes i ++ drop i room₀)
 
 abbrev μ-loop : tie.MeasureT-loop
@@ -36,13 +36,18 @@ stored bytes room room₀ i x h e f =
 sample-count-requires : tie.Need-sample-count-requires Inv-loop μ-loop
 sample-count-requires c κs = search needs
 
+returns : tie.Need-returns Inv-loop μ-loop
+unfolding samplesOf
+returns c = (rw (c .before .sample-count .ensures) at (sym (taken-none _ _ (c .if1 .taken))), refl)
+
 loop-holds : tie.Need-loop-holds Inv-loop μ-loop
 unfolding samplesOf
 loop-holds c =
-    let s = c .before .before .before in
+    let q = c .before in
+    let s = q .before .before .before in
     let f = count-fits (length (s .args .bytes .now)) (s .args .width) (s .args .height) in
-    let e = c .sample-count .ensures in
-    (omega arith, omega (arith, f .0, e), omega (arith, f .1, e), s .pre, s .pre, refl)
+    let e = q .sample-count .ensures in
+    (omega arith, omega (arith, f .0, e), omega (arith, f .1, e), refl, c .if1 .left, refl)
 
 mul-number : tie.Need-mul-number Inv-loop μ-loop
 mul-number c = omega arith
@@ -74,11 +79,12 @@ loop-again c =
 same-length : tie.Need-same-length Inv-loop μ-loop
 same-length c = omega arith
 
-returns : tie.Need-returns Inv-loop μ-loop
-returns c =
+returns-2 : tie.Need-returns-2 Inv-loop μ-loop
+returns-2 c =
     let l = c .before .loop in
-    let e : l .i ≡ c .before .before .sample-count .result = omega arith in
-    (c .before .before .sample-count .ensures, (rw (← e) (l .inv .5), (l .inv .2, l .inv .3)))
+    let q = c .before .before .before in
+    let e : l .i ≡ q .sample-count .result = omega arith in
+    (sym (taken-whole _ _ (l .inv .4)) ∙ ap (takenInto _) (q .sample-count .ensures), rw (← e) (l .inv .5))
 
 pub read-samples-spec : {M : Type 1} → statement M
 read-samples-spec =
@@ -87,6 +93,7 @@ read-samples-spec =
     Inv-loop
     μ-loop
     sample-count-requires
+    returns
     loop-holds
     mul-number
     number-requires
@@ -97,4 +104,4 @@ read-samples-spec =
     loop-less
     loop-again
     same-length
-    returns)
+    returns-2)
