@@ -2,6 +2,7 @@
 use mathlib.Core.Bool.{cond}
 use mathlib.Core.List.{List, [], _∷_, _++_}
 use Prim.Native.Nat.{ℕ, zero, suc, _+_, _/_, _%_}
+use Prim.Native.String.{String}
 use lib.Dec.{ltb}
 use lib.IntN.{ℤ, pos, natAbs}
 use lib.Signed.{ltZ}
@@ -22,3 +23,7 @@ decimal n = spelled n n
 -- "-" before the size of a number below zero
 unfoldable pub signedDecimal : ℤ → List ℕ
 signedDecimal z = cond (ltZ z (pos 0)) (ascii "-" ++ decimal (natAbs z)) (decimal (natAbs z))
+
+-- a word and the number behind it
+abbrev pub labelled : String → ℕ → List ℕ
+labelled label n = ascii label ++ decimal n
