@@ -2,9 +2,11 @@
 //!
 //! `programs PROGRAM FOLDER`: the files of each case are written into FOLDER, and PROGRAM is run there.
 
-use second::call::{Call, Entry};
+use second::call::{Buffer, Call, Entry};
+use second::generate::{dark_frame, random_stars, set_pixel, Scene, MOST_TOLERANCE};
 use second::listing::listing;
-use second::recorded;
+use second::random::Random;
+use second::{recorded, sky};
 use std::path::Path;
 use std::process::{Command, ExitCode};
 use std::{env, fs, io};
@@ -75,6 +77,7 @@ fn cases() -> Vec<Files> {
         cases.iter().position(|files| expected(files).starts_with("measured")).expect("a sound chain");
     let sound = cases[sound].clone();
     cases.extend(damaged(&sound));
+    cases.extend(longest());
     cases
 }
 
@@ -110,4 +113,56 @@ fn damaged(sound: &Files) -> Vec<Files> {
     }
     cases.push([None, None, None]);
     cases
+}
+
+/// Each file at its longest and just beyond, for a chain that is accepted and one that ends at the attitude.
+fn longest() -> Vec<Files> {
+    let random = Random::new(12);
+    let accepted = largest(&random);
+    let close = among_equals(&accepted, &random);
+    let mut cases = Vec::new();
+    for (call, lines) in [(accepted, 9), (close, 7)] {
+        let whole = files_of(&call).expect("its numbers fit their fields");
+        // No pixel is ever flat: one that is not beaten is brighter than every border pixel before it.
+        assert!(expected(&whole).starts_with("measured 5 edge 2 flat 0\n"));
+        // Every star has a name, and then the matrix or the refusal stands.
+        assert!(expected(&whole).lines().count() == lines && !expected(&whole).contains(" -\n"));
+        for (k, more) in [(0, 1), (1, 1), (1, 16), (2, 1), (2, 2)] {
+            let mut files = whole.clone();
+            files[k].as_mut().expect("all files are there").extend(vec![0; more]);
+            cases.push(files);
+        }
+        cases.push(whole);
+    }
+    // The smallest frame that has sides in range and more than 32,000 samples.
+    cases.extend(files_of(&dark_frame(Entry::Chain, 254, 126, 60)));
+    cases
+}
+
+/// 32,000 samples and 512 records, with stars in two places at the edge.
+fn largest(random: &Random) -> Call {
+    let scene = Scene {
+        width: 200,
+        height: 160,
+        visible: 5,
+        unknown: 0,
+        records: 512,
+        equal_brightness: false,
+        background: false,
+    };
+    let mut call = scene.call(random);
+    set_pixel(&mut call, 0, 40, 900);
+    set_pixel(&mut call, 90, 199, 700);
+    call
+}
+
+/// The same frame, where half of the catalogue's stars stand in one place and all directions agree with them.
+fn among_equals(call: &Call, random: &Random) -> Call {
+    let mut call = call.clone();
+    call.focal = 400_000;
+    call.tolerance = MOST_TOLERANCE;
+    let mut stars = random_stars(random, 256);
+    stars.extend([[0, 0, 1_000_000_000]; 256]);
+    call.catalogue = Buffer::of(&sky::catalogue(random, &stars));
+    call
 }
