@@ -4,6 +4,9 @@ use mathlib.Core.List.{List}
 use Prim.Native.Nat.{ℕ, zero, suc, _+_, _*_}
 use lib.ListN.{getD}
 use lib.Dec.{ltb, leb}
+use Rattle.counting.specs.First.{first}
+use Rattle.window.specs.declared.Beating.{Beating}
+use Rattle.window.specs.declared.Beating.the-variants.{At, Nothing}
 
 -- whether p holds of some number below n
 unfoldable pub some-below : ℕ → (ℕ → Bool) → Bool
@@ -27,7 +30,28 @@ unfoldable pub beats : List ℕ → ℕ → ℕ → ℕ → ℕ → ℕ → Bool
 beats samples width row column r c =
     cond (earlier row column r c) (leb (at samples width row column) (at samples width r c)) (ltb (at samples width row column) (at samples width r c))
 
--- some pixel of the frame, no more than 3 rows and 3 columns off, beats the one at row, column
+-- the pixel at r, c is no more than 3 rows and 3 columns off, and beats the one at row, column
+abbrev pub hits : List ℕ → ℕ → ℕ → ℕ → ℕ → ℕ → Bool
+hits samples width row column r c = (near row r && near column c) && beats samples width row column r c
+
+-- some pixel of row r of the frame does
+abbrev pub rowHits : List ℕ → ℕ → ℕ → ℕ → ℕ → Bool
+rowHits samples width row column r = some-below width (λ c. hits samples width row column r c)
+
+-- some pixel of the frame does
 unfoldable pub beaten : List ℕ → ℕ → ℕ → ℕ → ℕ → Bool
-beaten samples width height row column =
-    some-below height (λ r. some-below width (λ c. (near row r && near column c) && beats samples width row column r c))
+beaten samples width height row column = some-below height (λ r. rowHits samples width row column r)
+
+-- the first row of the frame that has one, and the first column of a row r
+abbrev pub beatingRow : List ℕ → ℕ → ℕ → ℕ → ℕ → ℕ
+beatingRow samples width height row column = first (λ r. rowHits samples width row column r) height
+
+abbrev pub beatingColumn : List ℕ → ℕ → ℕ → ℕ → ℕ → ℕ
+beatingColumn samples width row column r = first (λ c. hits samples width row column r c) width
+
+-- the first in row order of the pixels that beat it, where it is beaten
+unfoldable pub firstBeating : List ℕ → ℕ → ℕ → ℕ → ℕ → Beating
+firstBeating samples width height row column =
+    cond (beaten samples width height row column)
+    (At (beatingRow samples width height row column) (beatingColumn samples width row column (beatingRow samples width height row column)))
+    Nothing

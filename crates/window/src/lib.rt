@@ -1,8 +1,14 @@
-// A pixel's window: its samples, and whether a pixel of the window beats it.
+// A pixel's window: its samples, and which pixel of the window beats it first.
 ghost use mathlib.Core.Path.{_≡_};
 ghost use Prim.Native.Nat.{_+_, _-_, _*_, _<_, _≤_, min};
 ghost use lib.ListN.{length};
-ghost use Rattle.window.specs.Window.{at, earlier, beats, beaten};
+ghost use Rattle.window.specs.Window.{at, earlier, beats, beaten, firstBeating};
+
+// The row and the column of the first pixel that beats another, if one does.
+pub enum Beating {
+    At(usize, usize),
+    Nothing,
+}
 
 // The sample of a pixel.
 pub fn sample(samples: &[u16], width: usize, height: usize, row: usize, column: usize) -> u16
@@ -62,26 +68,44 @@ fn beats_it(
     }
 }
 
-// Whether a pixel of its window beats the pixel at row, column. The look stops at the first that does.
-pub fn is_beaten(samples: &[u16], width: usize, height: usize, row: usize, column: usize) -> bool
+// The first pixel in row order that beats the one at row, column, of those in its window. The look stops there.
+pub fn first_beating(
+    samples: &[u16],
+    width: usize,
+    height: usize,
+    row: usize,
+    column: usize,
+) -> Beating
     requires { ⌜ (length (now samples) ≡ height * width) × (row < height) × (column < width) ⌝ }
-    ensures { λ b. ⌜ b ≡ beaten (now (samples .entry)) width height row column ⌝ }
+    ensures { λ b. ⌜ b ≡ firstBeating (now (samples .entry)) width height row column ⌝ }
 {
     let bottom = high(row, height);
     let left = low(column);
     let right = high(column, width);
-    let mut hit = false;
+    let mut found = Beating::Nothing;
     let mut r = low(row);
     'look: while r < bottom {
         let mut c = left;
         while c < right {
             if beats_it(samples, width, height, row, column, r, c) {
-                hit = true;
+                found = Beating::At(r, c);
                 break 'look;
             }
             c += 1;
         }
         r += 1;
     }
-    hit
+    found
+}
+
+// Whether a pixel of its window beats the pixel at row, column.
+pub fn is_beaten(samples: &[u16], width: usize, height: usize, row: usize, column: usize) -> bool
+    requires { ⌜ (length (now samples) ≡ height * width) × (row < height) × (column < width) ⌝ }
+    ensures { λ b. ⌜ b ≡ beaten (now (samples .entry)) width height row column ⌝ }
+{
+    let beating = first_beating(samples, width, height, row, column);
+    match beating {
+        Beating::At(_, _) => true,
+        Beating::Nothing => false,
+    }
 }
