@@ -93,7 +93,7 @@ pub(crate) fn frame_outcome(
 }
 
 // The same for a call that names a pixel.
-pub(crate) fn pixel_outcome(
+pub fn pixel_outcome(
     samples: &[u16],
     width: usize,
     height: usize,

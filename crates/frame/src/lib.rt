@@ -9,6 +9,8 @@ use verdict::Verdict;
 mod check; // check.rt: what a call asks of its inputs
 mod stars; // stars.rt: the list and the counts, pixel by pixel
 
+pub use check::pixel_outcome;
+
 pub enum Judgement {
     Refused(Refusal),
     Judged(Verdict),

@@ -1,0 +1,63 @@
+-- `reason::values_of` meets its contract, case by case. Assumes nothing.
+use mathlib.Core.Path.{sym, ap, _∙_}
+use Rattle.reason.specs.Reason.{three, valuesIn}
+use borrow.Author.Needs.{needs}
+use Rattle.reason.proofs.values_of.Statement.{statement}
+use Rattle.reason.proofs.values_of.Tie as tie
+
+enum-known-reason : tie.Need-enum-known-reason
+enum-known-reason c = search needs
+
+cast-t9 : tie.Need-cast-t9
+cast-t9 c = search needs
+
+enum-known-reason-2 : tie.Need-enum-known-reason-2
+enum-known-reason-2 c = search needs
+
+enum-known-reason-3 : tie.Need-enum-known-reason-3
+enum-known-reason-3 c = search needs
+
+side-number-requires : tie.Need-side-number-requires
+side-number-requires c κs = search needs
+
+cast-t14 : tie.Need-cast-t14
+cast-t14 c = search needs
+
+enum-told : tie.Need-enum-told
+enum-told c = search needs
+
+enum-known-reason-4 : tie.Need-enum-known-reason-4
+enum-known-reason-4 c = search needs
+
+returns : tie.Need-returns
+returns c = ap valuesIn (sym (c .before .reason .given .1))
+
+returns-2 : tie.Need-returns-2
+returns-2 c = ap valuesIn (sym (c .before .reason2 .given .1))
+
+returns-3 : tie.Need-returns-3
+returns-3 c = (λ i. three (c .side-number .ensures i) 0 0) ∙ ap valuesIn (sym (c .before .before .reason3 .given .1))
+
+returns-4 : tie.Need-returns-4
+returns-4 c = ap valuesIn (sym (c .enum-told .given .1))
+
+returns-5 : tie.Need-returns-5
+returns-5 c = ap valuesIn (sym (c .before .reason4 .given .1))
+
+pub values-of-spec : {M : Type 1} → statement M
+values-of-spec =
+    tie.close
+    (tie.spec
+    enum-known-reason
+    cast-t9
+    enum-known-reason-2
+    enum-known-reason-3
+    side-number-requires
+    cast-t14
+    enum-told
+    enum-known-reason-4
+    returns
+    returns-2
+    returns-3
+    returns-4
+    returns-5)
