@@ -3,6 +3,7 @@ pub mod Room
 pub mod Numbers
 pub mod Stars
 pub mod Frame
+pub mod Reason
 pub mod Direction
 pub mod Catalogue
 pub mod Search

@@ -16,6 +16,8 @@ use direction::Direction;
 use frame::Judgement;
 use frame::Listing;
 use frame::Report;
+use reason::Explanation;
+use reason::Reason;
 use refusal::Outcome;
 use search::Identification;
 use tracker::Tracked;
@@ -28,6 +30,7 @@ ghost use Rattle.exports.specs.Catalogue.{catalogueNumbers};
 ghost use Rattle.exports.specs.Direction.{directionNumbers};
 ghost use Rattle.exports.specs.Attitude.{attitudeNumbers};
 ghost use Rattle.exports.specs.Frame.{centroidIn, judgedNumbers, verdictNumbers, reportNumbers, listingNumbers};
+ghost use Rattle.exports.specs.Reason.{reasonNumbers, explanationNumbers};
 ghost use Rattle.exports.specs.Search.{searchNumbers};
 ghost use Rattle.exports.specs.Chain.{chainNumbers};
 
@@ -71,6 +74,27 @@ pub(crate) fn of_verdict(judgement: Judgement) -> [i64; 64]
     match judgement {
         Judgement::Refused(refusal) => of_refusal(refusal),
         Judgement::Judged(verdict) => of_judged(verdict),
+    }
+}
+
+fn of_reason(reason: Reason) -> [i64; 64]
+    ensures { λ r. ⌜ r ≡ reasonNumbers reason ⌝ }
+{
+    let values = reason::values_of(reason);
+    let mut flat = [0i64; 64];
+    flat[2] = signed(reason::reason_number(reason) as u64);
+    flat[3] = signed(values.first);
+    flat[4] = signed(values.second);
+    flat[5] = signed(values.third);
+    flat
+}
+
+pub(crate) fn of_explanation(explanation: Explanation) -> [i64; 64]
+    ensures { λ r. ⌜ r ≡ explanationNumbers explanation ⌝ }
+{
+    match explanation {
+        Explanation::Refused(refusal) => of_refusal(refusal),
+        Explanation::Given(reason) => of_reason(reason),
     }
 }
 

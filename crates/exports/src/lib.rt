@@ -10,12 +10,14 @@ ghost use lib.ListN.{length};
 ghost use Rattle.exports.specs.Room.{handedOver};
 ghost use Rattle.exports.specs.Numbers.{rankingNumbers};
 ghost use Rattle.exports.specs.Frame.{verdictNumbers, listingNumbers};
+ghost use Rattle.exports.specs.Reason.{explanationNumbers};
 ghost use Rattle.exports.specs.Catalogue.{catalogueNumbers};
 ghost use Rattle.exports.specs.Search.{searchNumbers};
 ghost use Rattle.exports.specs.Direction.{directionNumbers};
 ghost use Rattle.exports.specs.Attitude.{vectorAt, attitudeHanded};
 ghost use Rattle.exports.specs.Chain.{settingsOf, chainNumbers};
 ghost use Rattle.frame.specs.Calls.{judgementOf, listingOf};
+ghost use Rattle.reason.specs.Reason.{explanationOf};
 ghost use Rattle.direction.specs.ListLaws.{directionsIn};
 ghost use Rattle.catalogue.specs.Format.{recordsIn};
 ghost use Rattle.catalogue.specs.Check.{checkedOf};
@@ -55,6 +57,23 @@ pub extern "C" fn mnemathor_verdict(
 {
     let judgement = frame::judge(samples, width, height, threshold, row, column);
     hand_over(out, answers::of_verdict(judgement));
+}
+
+// Why one pixel is not a star.
+#[no_mangle]
+pub extern "C" fn mnemathor_reason(
+    samples: &[u16],
+    width: usize,
+    height: usize,
+    threshold: usize,
+    row: usize,
+    column: usize,
+    out: &mut [i64],
+)
+    ensures { λ _. ⌜ now (out .exit) ≡ handedOver (explanationNumbers (explanationOf (now (samples .entry)) width height threshold row column)) (now (out .entry)) ⌝ }
+{
+    let explanation = reason::explain(samples, width, height, threshold, row, column);
+    hand_over(out, answers::of_explanation(explanation));
 }
 
 // The frame's list and counts.

@@ -31,6 +31,27 @@ pub fn verdict(fd: i32, bytes: &mut [u8], samples: &mut [u16]) {
     print_end();
 }
 
+pub fn reason(fd: i32, bytes: &mut [u8], samples: &mut [u16]) {
+    let width = word(fd) as usize;
+    let height = word(fd) as usize;
+    let threshold = word(fd) as usize;
+    let row = word(fd) as usize;
+    let column = word(fd) as usize;
+    let n = read_words(fd, bytes, samples);
+    let mut out = [0i64; 64];
+    exports::mnemathor_reason(
+        &samples[0..n],
+        width,
+        height,
+        threshold,
+        row,
+        column,
+        &mut out,
+    );
+    print_call(9, &out, 6);
+    print_end();
+}
+
 pub fn list(fd: i32, bytes: &mut [u8], samples: &mut [u16]) {
     let width = word(fd) as usize;
     let height = word(fd) as usize;

@@ -20,7 +20,8 @@ fn run(
         5 => calls::ranking(fd, bytes, stars, room),
         6 => calls::search(fd, bytes, stars, room),
         7 => calls::attitude(fd, bytes),
-        _ => calls::chain(fd, bytes, samples, stars, room),
+        8 => calls::chain(fd, bytes, samples, stars, room),
+        _ => calls::reason(fd, bytes, samples),
     }
 }
 
