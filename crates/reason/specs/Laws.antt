@@ -31,10 +31,13 @@ use Rattle.reason.specs.declared.Explanation.the-variants.{Refused, Give
 use Rattle.reason.specs.Side.{sideNumber, firstSide}
 use Rattle.reason.specs.Reason.{peakReason, unlessBeaten, reasonOf, explanationOf, kindIn}
 
+pub no-path : {A : Type 0} → _≡_ {A = ℕ} 0 1 → A
+no-path z = absurd (omega arith)
+
 -- ---- the kind is the verdict's
 
 module _ (samples : List ℕ) (width height threshold row column : ℕ) where
-  peak-kind-is : kindIn (peakReason samples width height row column) ≡ peakKind samples width height row column
+  pub peak-kind-is : kindIn (peakReason samples width height row column) ≡ peakKind samples width height row column
   unfolding peakReason peakKind
   peak-kind-is = go (edge width height row column) (eqb (brightness samples width row column) 0)
     where
@@ -133,9 +136,6 @@ module _ (width height row column : ℕ) where
       go false p false q false u false v e = let z : _≡_ {A = ℕ} 0 1 = cc in absurd (omega arith)
 
 -- ---- what a reason names
-
-no-path : {A : Type 0} → _≡_ {A = ℕ} 0 1 → A
-no-path z = absurd (omega arith)
 
 module _ (samples : List ℕ) (width height threshold row column : ℕ) where
   -- case by case: what holds of each reason under what decides for it holds of the rule's

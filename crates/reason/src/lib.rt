@@ -122,20 +122,17 @@ fn first_side(width: usize, height: usize, row: usize, column: usize) -> Side
     Side::Bottom
 }
 
-// The reason for a pixel that is neither dark nor beaten.
+// The reason for a pixel that is neither dark nor beaten: one that is neither flat nor measured is at the edge.
 fn peak_reason(samples: &[u16], width: usize, height: usize, row: usize, column: usize) -> Reason
     requires { ⌜ (length (now samples) ≡ height * width) × (row < height) × (column < width) × (height ≤ 1024) × (width ≤ 1024) ⌝ }
     ensures { λ r. ⌜ r ≡ peakReason (now (samples .entry)) width height row column ⌝ }
 {
-    if verdict::is_edge(width, height, row, column) {
-        return Reason::Edge(first_side(width, height, row, column));
+    let kind = verdict::peak_kind(samples, width, height, row, column);
+    match kind {
+        Kind::Flat => Reason::Flat,
+        Kind::Measured(centroid) => Reason::Measured(centroid),
+        _ => Reason::Edge(first_side(width, height, row, column)),
     }
-    let moments = centroid::moments_at(samples, width, height, row, column);
-    let brightness = moments.brightness;
-    if brightness == 0 {
-        return Reason::Flat;
-    }
-    Reason::Measured(centroid::from_moments(row, column, moments))
 }
 
 // The tests in the verdict's order, and the same look through the window.

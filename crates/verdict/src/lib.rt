@@ -48,7 +48,7 @@ fn is_dark(
 }
 
 // Whether fewer than 3 columns or rows lie between the pixel and a side.
-pub fn is_edge(width: usize, height: usize, row: usize, column: usize) -> bool
+fn is_edge(width: usize, height: usize, row: usize, column: usize) -> bool
     requires { ⌜ (row < height) × (column < width) ⌝ }
     ensures { λ r. ⌜ r ≡ edge width height row column ⌝ }
 {

@@ -1,64 +1,100 @@
--- `reason::peak_reason` meets its contract. Behind the test for the edge there is room for the whole window. Assumes nothing.
-use mathlib.Core.Path.{sym, _∙_}
-use native.Mathlib.Omega.{arith}
-use borrow.Author.Tests.{eq-eqb, ne-eqb}
-use Rattle.centroid.specs.Signed.{from-moments}
-use Rattle.verdict.specs.Laws.{inside}
-use Rattle.reason.specs.Reason.{peakReason}
+-- `reason::peak_reason` meets its contract: the reason of each kind that a peak can have. Assumes nothing.
 use borrow.Author.Needs.{needs}
+use mathlib.Core.Bool.{Bool, true, false, cond}
+use mathlib.Core.Logic.{_⊎_, ⊎-elim}
+use mathlib.Core.Path.{_≡_, refl, sym, ap, _∙_}
+use mathlib.Core.List.{List}
+use Prim.Native.Nat.{ℕ, _<_}
+use native.Mathlib.Omega.{arith}
+use lib.Dec.{eqb}
+use denote.Enum.Declared as declared
+use Rattle.verdict.proofs.Kind as enum
+use Rattle.centroid.specs.Centroid.{brightness, centroidOf}
+use Rattle.centroid.specs.declared.Centroid.{Centroid}
+use Rattle.verdict.specs.declared.Kind.{Kind}
+use Rattle.verdict.specs.declared.Kind.the-variants as kinds
+use Rattle.verdict.specs.Verdict.{edge, peakKind}
+use Rattle.reason.specs.declared.Reason.{Reason}
+use Rattle.reason.specs.declared.Reason.the-variants.{Dark, Beaten, Edge, Flat, Measured}
+use Rattle.reason.specs.Side.{firstSide}
+use Rattle.reason.specs.Reason.{kindIn, peakReason}
+use Rattle.reason.specs.Laws.{peak-kind-is, no-path}
 use Rattle.reason.proofs.peak_reason.Statement.{statement}
 use Rattle.reason.proofs.peak_reason.Tie as tie
 
-is-edge-requires : tie.Need-is-edge-requires
-is-edge-requires c κs = search needs
+-- ---- a reason by its kind
+
+flat-is : (x : Reason) → kindIn x ≡ kinds.Flat → Flat ≡ x
+flat-is (Dark s t) e = no-path (cc)
+flat-is (Beaten r c) e = no-path (cc)
+flat-is (Edge s) e = no-path (cc)
+flat-is Flat e = refl
+flat-is (Measured m) e = no-path (cc)
+
+measured-is : (c : Centroid) (x : Reason) → kindIn x ≡ kinds.Measured c → Measured c ≡ x
+measured-is c (Dark s t) e = no-path (cc)
+measured-is c (Beaten r k) e = no-path (cc)
+measured-is c (Edge s) e = no-path (cc)
+measured-is c Flat e = no-path (cc)
+measured-is c (Measured m) e = let p : c ≡ m = cc in ap Measured p
+
+abbrev tag : Kind → ℕ
+tag k = declared.tagOf enum.the-type k
+
+-- a kind that stands before flat and measured
+below : (t : ℕ) → (t ≡ 0) ⊎ ((t ≡ 1) ⊎ (t ≡ 2)) → t < 3
+below t = ⊎-elim (λ e. omega arith) (⊎-elim (λ e. omega arith) (λ e. omega arith))
+
+edge-is : (samples : List ℕ) (width height row column : ℕ) (k : Kind) → tag k < 3 → k ≡ peakKind samples width height row column
+    → Edge (firstSide width height row column) ≡ peakReason samples width height row column
+unfolding peakKind peakReason
+edge-is samples width height row column k h = go (edge width height row column) (eqb (brightness samples width row column) 0)
+  where
+    go : (a b : Bool) → k ≡ cond a kinds.Edge (cond b kinds.Flat (kinds.Measured (centroidOf samples width row column)))
+        → Edge (firstSide width height row column) ≡ cond a (Edge (firstSide width height row column)) (cond b Flat (Measured (centroidOf samples width row column)))
+    go true b e = refl
+    go false true e = let t : tag k ≡ 3 = ap tag e in absurd (omega arith)
+    go false false e = let t : tag k ≡ 4 = ap tag e in absurd (omega arith)
+
+peak-kind-requires : tie.Need-peak-kind-requires
+peak-kind-requires c κs = search needs
+
+enum-told : tie.Need-enum-told
+enum-told c = search needs
+
+enum-known-kind : tie.Need-enum-known-kind
+enum-known-kind c = search needs
 
 first-side-requires : tie.Need-first-side-requires
 first-side-requires c κs = search needs
 
 returns : tie.Need-returns
-unfolding peakReason
-returns c = rw (sym (c .before .before .is-edge .ensures) ∙ c .before .if1 .taken, c .first-side .ensures)
-
-moments-at-requires : tie.Need-moments-at-requires
-moments-at-requires c κs =
-    let i = inside _ _ _ _ (sym (c .before .is-edge .ensures) ∙ c .if1 .left) in
-    search needs
+returns c =
+    let p = c .before .before in
+    let a = p .before .before .args in
+    flat-is _ (peak-kind-is (a .samples .now) (a .width) (a .height) 0 (a .row) (a .column) ∙ sym (p .peak-kind .ensures) ∙ c .enum-told .given .1)
 
 returns-2 : tie.Need-returns-2
-unfolding peakReason
 returns-2 c =
-    let e = c .before .before in
-    rw (sym (e .before .is-edge .ensures) ∙ e .if1 .left, eq-eqb _ _ (sym (c .before .moments-at .ensures .bright) ∙ c .if2 .taken))
-
-from-moments-requires : tie.Need-from-moments-requires
-from-moments-requires c κs =
-    let e = c .before .before in
-    let i = inside _ _ _ _ (sym (e .before .is-edge .ensures) ∙ e .if1 .left) in
-    search needs
+    let p = c .before .before .before in
+    let a = p .before .before .args in
+    measured-is _ _ (peak-kind-is (a .samples .now) (a .width) (a .height) 0 (a .row) (a .column) ∙ sym (p .peak-kind .ensures) ∙ c .before .kind .given .1)
 
 returns-3 : tie.Need-returns-3
-unfolding peakReason
 returns-3 c =
-    let b = c .before in
-    let m = b .before .moments-at in
-    let e = b .before .before in
-    let a = e .before .before .before .args in
-    let i = inside _ _ _ _ (sym (e .before .is-edge .ensures) ∙ e .if1 .left) in
-    rw (
-      sym (e .before .is-edge .ensures) ∙ e .if1 .left,
-      ne-eqb _ _ (λ z. b .if2 .left (m .ensures .bright ∙ z)),
-      c .from-moments .ensures,
-      from-moments (a .samples .now) (a .width) (a .row) (a .column) (omega (arith, i .above)) (omega (arith, i .left)) (m .result) (m .ensures),
-    )
+    let p = c .before .before in
+    let a = p .before .before .args in
+    ap Edge (c .first-side .ensures)
+    ∙ edge-is (a .samples .now) (a .width) (a .height) (a .row) (a .column) (p .peak-kind .result) (below _ (c .before .match .keys3)) (p .peak-kind .ensures)
 
 pub peak-reason-spec : {M : Type 1} → statement M
 peak-reason-spec =
     tie.close
     (tie.spec
-    is-edge-requires
+    peak-kind-requires
+    enum-told
+    enum-known-kind
     first-side-requires
     returns
-    moments-at-requires
     returns-2
-    from-moments-requires
     returns-3)
