@@ -36,11 +36,50 @@ pub enum Kind {
     Measured(Centroid),
 }
 
+impl Kind {
+    pub fn number(self) -> i64 {
+        match self {
+            Kind::Dark => 0,
+            Kind::Beaten => 1,
+            Kind::Edge => 2,
+            Kind::Flat => 3,
+            Kind::Measured(_) => 4,
+        }
+    }
+}
+
 #[derive(Debug, Clone, Copy, PartialEq, Eq)]
 pub struct Verdict {
     pub row: usize,
     pub column: usize,
     pub kind: Kind,
+}
+
+/// A side of the frame; the order is the one in which broken sides are named.
+#[derive(Debug, Clone, Copy, PartialEq, Eq)]
+pub enum Side {
+    Left,
+    Right,
+    Top,
+    Bottom,
+}
+
+/// Why a pixel has its verdict.
+#[derive(Debug, Clone, Copy, PartialEq, Eq)]
+pub enum Reason {
+    Dark {
+        sample: i64,
+        threshold: i64,
+    },
+    /// The first pixel of its window that beats it.
+    Beaten {
+        row: usize,
+        column: usize,
+    },
+    /// The first side that is too near.
+    Edge(Side),
+    Flat,
+    Measured(Centroid),
 }
 
 /// The brightest stars of a frame, and how many pixels have each verdict.
@@ -91,16 +130,25 @@ impl Answer for Verdict {
     fn fill(&self, out: &mut Numbers) {
         out[2] = self.row as i64;
         out[3] = self.column as i64;
-        out[4] = match self.kind {
-            Kind::Dark => 0,
-            Kind::Beaten => 1,
-            Kind::Edge => 2,
-            Kind::Flat => 3,
-            Kind::Measured(_) => 4,
-        };
+        out[4] = self.kind.number();
         if let Kind::Measured(star) = self.kind {
             out[5..8].copy_from_slice(&[star.x, star.y, star.brightness]);
         }
+    }
+}
+
+/// The verdict's number, then three values.
+impl Answer for Reason {
+    fn fill(&self, out: &mut Numbers) {
+        let (kind, values) = match *self {
+            Reason::Dark { sample, threshold } => (0, [sample, threshold, 0]),
+            Reason::Beaten { row, column } => (1, [row as i64, column as i64, 0]),
+            Reason::Edge(side) => (2, [side as i64, 0, 0]),
+            Reason::Flat => (3, [0; 3]),
+            Reason::Measured(star) => (4, [star.x, star.y, star.brightness]),
+        };
+        out[2] = kind;
+        out[3..6].copy_from_slice(&values);
     }
 }
 

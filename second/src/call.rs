@@ -15,9 +15,10 @@ pub enum Entry {
     Search,
     Attitude,
     Chain,
+    Reason,
 }
 
-pub const ENTRIES: [Entry; 8] = [
+pub const ENTRIES: [Entry; 9] = [
     Entry::Verdict,
     Entry::List,
     Entry::Direction,
@@ -26,11 +27,22 @@ pub const ENTRIES: [Entry; 8] = [
     Entry::Search,
     Entry::Attitude,
     Entry::Chain,
+    Entry::Reason,
 ];
 
 impl Entry {
     pub fn name(self) -> &'static str {
-        ["verdict", "list", "direction", "catalogue", "ranking", "search", "attitude", "chain"][self.index()]
+        match self {
+            Entry::Verdict => "verdict",
+            Entry::List => "list",
+            Entry::Direction => "direction",
+            Entry::Catalogue => "catalogue",
+            Entry::Ranking => "ranking",
+            Entry::Search => "search",
+            Entry::Attitude => "attitude",
+            Entry::Chain => "chain",
+            Entry::Reason => "reason",
+        }
     }
 
     pub fn index(self) -> usize {
@@ -44,13 +56,18 @@ impl Entry {
 
     /// How many of the 64 numbers the recorded output shows.
     pub fn numbers_shown(self) -> usize {
-        [8, 30, 5, 3, 2, 11, 11, 47][self.index()]
+        [8, 30, 5, 3, 2, 11, 11, 47, 6][self.index()]
+    }
+
+    /// Whether plain Rust has this call too.
+    pub fn in_plain(self) -> bool {
+        self.index() <= Entry::Chain.index()
     }
 
     /// The refusals this call can give.
     pub fn refusals(self) -> &'static [u8] {
         match self {
-            Entry::Verdict => &[1, 2, 3, 4, 15],
+            Entry::Verdict | Entry::Reason => &[1, 2, 3, 4, 15],
             Entry::List => &[1, 2, 3, 4],
             Entry::Direction => &[5],
             Entry::Catalogue => &[6, 7],
@@ -243,7 +260,9 @@ impl Call {
     pub fn scalars(&self) -> Vec<u64> {
         let signed = |n: i64| n as u64;
         match self.entry {
-            Entry::Verdict => vec![self.width, self.height, self.threshold, self.row, self.column],
+            Entry::Verdict | Entry::Reason => {
+                vec![self.width, self.height, self.threshold, self.row, self.column]
+            }
             Entry::List => vec![self.width, self.height, self.threshold],
             Entry::Direction => [self.cx, self.cy, self.focal, self.x, self.y].map(signed).to_vec(),
             Entry::Catalogue | Entry::Attitude => vec![],
@@ -269,7 +288,7 @@ impl Call {
             write_word(bytes, word);
         }
         match self.entry {
-            Entry::Verdict | Entry::List => self.samples.write(bytes),
+            Entry::Verdict | Entry::List | Entry::Reason => self.samples.write(bytes),
             Entry::Direction => {}
             Entry::Catalogue => self.catalogue.write(bytes),
             Entry::Ranking => {
@@ -319,10 +338,10 @@ impl Call {
     /// The outcome by the wide implementation, unless its search goes beyond the effort.
     pub fn run_wide(&self, effort: &mut Effort) -> Result<Outcome, GaveUp> {
         let set = self.settings();
+        let (row, column) = (self.row.into(), self.column.into());
         let mut lent = self.lend();
         let out = match self.entry {
             Entry::Verdict => {
-                let (row, column) = (self.row.into(), self.column.into());
                 numbers(&frame::verdict(&lent.samples, set.width, set.height, set.threshold, row, column))
             }
             Entry::List => numbers(&frame::list(&lent.samples, set.width, set.height, set.threshold)),
@@ -345,6 +364,9 @@ impl Call {
             Entry::Chain => {
                 numbers(&chain_within(&lent.samples, &set, &lent.catalogue, &mut lent.room, effort)?)
             }
+            Entry::Reason => {
+                numbers(&frame::reason(&lent.samples, set.width, set.height, set.threshold, row, column))
+            }
         };
         Ok(Outcome { out, room: lent.room })
     }
@@ -355,7 +377,7 @@ impl Call {
         Outcome { out, room: lent.room }
     }
 
-    /// The numbers plain Rust gives for the buffers lent.
+    /// The numbers plain Rust gives for the buffers lent, for a call that it has.
     pub fn run_plain_on(&self, lent: &mut Lent) -> Numbers {
         let (width, height, threshold) = (self.width as usize, self.height as usize, self.threshold as usize);
         let needed = self.needed as usize;
@@ -391,6 +413,7 @@ impl Call {
                 self.tolerance,
                 &mut lent.room,
             )),
+            Entry::Reason => panic!("plain Rust has no {}", self.entry.name()),
         }
     }
 

@@ -1,6 +1,6 @@
 //! Pixel verdicts, positions and the list of a frame.
 
-use crate::answer::{Centroid, Kind, List, Refusal, Verdict};
+use crate::answer::{Centroid, Kind, List, Reason, Refusal, Side, Verdict};
 use crate::narrow;
 use std::cmp::Reverse;
 
@@ -28,6 +28,22 @@ pub fn verdict(
         return Err(Refusal::new(15));
     }
     Ok(frame.verdict(row, column))
+}
+
+/// Why the pixel has its verdict.
+pub fn reason(
+    samples: &[u16],
+    width: i128,
+    height: i128,
+    threshold: i128,
+    row: i128,
+    column: i128,
+) -> Result<Reason, Refusal> {
+    let frame = Frame::check(samples, width, height, threshold)?;
+    if !frame.contains(row, column) {
+        return Err(Refusal::new(15));
+    }
+    Ok(frame.reason(row, column))
 }
 
 pub fn list(samples: &[u16], width: i128, height: i128, threshold: i128) -> Result<List, Refusal> {
@@ -76,14 +92,28 @@ impl<'a> Frame<'a> {
     fn verdict(&self, row: i128, column: i128) -> Verdict {
         let kind = if self.sample(row, column) < self.threshold {
             Kind::Dark
-        } else if self.is_beaten(row, column) {
+        } else if self.first_beating(row, column).is_some() {
             Kind::Beaten
-        } else if self.is_edge(row, column) {
+        } else if self.broken_side(row, column).is_some() {
             Kind::Edge
         } else {
             self.measure(row, column).map_or(Kind::Flat, Kind::Measured)
         };
         Verdict { row: row as usize, column: column as usize, kind }
+    }
+
+    fn reason(&self, row: i128, column: i128) -> Reason {
+        let sample = self.sample(row, column);
+        if sample < self.threshold {
+            return Reason::Dark { sample: narrow(sample), threshold: narrow(self.threshold) };
+        }
+        if let Some((row, column)) = self.first_beating(row, column) {
+            return Reason::Beaten { row: row as usize, column: column as usize };
+        }
+        if let Some(side) = self.broken_side(row, column) {
+            return Reason::Edge(side);
+        }
+        self.measure(row, column).map_or(Reason::Flat, Reason::Measured)
     }
 
     fn contains(&self, row: i128, column: i128) -> bool {
@@ -94,7 +124,8 @@ impl<'a> Frame<'a> {
         i128::from(self.samples[(row * self.width + column) as usize])
     }
 
-    fn is_beaten(&self, row: i128, column: i128) -> bool {
+    /// The first pixel of the window, in row order, that beats this one.
+    fn first_beating(&self, row: i128, column: i128) -> Option<(i128, i128)> {
         let own = self.sample(row, column);
         for r in row - 3..=row + 3 {
             for c in column - 3..=column + 3 {
@@ -105,15 +136,22 @@ impl<'a> Frame<'a> {
                 let earlier = (r, c) < (row, column);
                 let later = (r, c) > (row, column);
                 if (earlier && other >= own) || (later && other > own) {
-                    return true;
+                    return Some((r, c));
                 }
             }
         }
-        false
+        None
     }
 
-    fn is_edge(&self, row: i128, column: i128) -> bool {
-        row < 3 || column < 3 || row > self.height - 4 || column > self.width - 4
+    /// The first side with fewer than 3 rows or columns between it and the pixel.
+    fn broken_side(&self, row: i128, column: i128) -> Option<Side> {
+        let between = [
+            (Side::Left, column),
+            (Side::Right, self.width - 1 - column),
+            (Side::Top, row),
+            (Side::Bottom, self.height - 1 - row),
+        ];
+        between.into_iter().find(|&(_, pixels)| pixels < 3).map(|(side, _)| side)
     }
 
     /// Position and brightness of a pixel that is not at the edge; none where the brightness is 0.

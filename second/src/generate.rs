@@ -319,7 +319,7 @@ pub fn any_vector(random: &Random) -> [i64; 3] {
 /// A call of this kind, most often a sound one; about a third are damaged, some of them more than once.
 pub fn any_call(random: &Random, entry: Entry) -> Call {
     let mut call = match entry {
-        Entry::Verdict | Entry::List => any_frame(random, entry),
+        Entry::Verdict | Entry::List | Entry::Reason => any_frame(random, entry),
         Entry::Direction => any_direction(random),
         Entry::Catalogue => any_catalogue(random),
         Entry::Ranking => any_ranking(random),

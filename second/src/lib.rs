@@ -1,6 +1,6 @@
-//! A second implementation of the star camera's rules, written from the scope document alone.
+//! A second implementation of the star camera's rules, written from documents 01 and 02 alone.
 //!
-//! The modules named after the steps, `frame` to `listing`, follow the wording of the rules and compute
+//! The modules named after the steps, `attitude` to `search`, follow the wording of the rules and compute
 //! in 128-bit integers, so that no sum or product can overflow. `plain` does the same work with ordinary
 //! integers for speed. The rest makes calls, records them, and calls the proved library.
 
@@ -9,7 +9,9 @@ pub mod answer;
 pub mod attitude;
 pub mod catalogue;
 pub mod chain;
+pub mod desk;
 pub mod direction;
+pub mod files;
 pub mod frame;
 pub mod listing;
 pub mod ranking;

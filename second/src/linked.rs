@@ -68,6 +68,17 @@ extern "C" {
         out: *mut i64,
         out_len: usize,
     );
+    fn mnemathor_reason(
+        samples: *const u16,
+        samples_len: usize,
+        width: usize,
+        height: usize,
+        threshold: usize,
+        row: usize,
+        column: usize,
+        out: *mut i64,
+        out_len: usize,
+    );
 }
 
 /// Makes the call with the buffers lent and this room for the numbers. All buffers are lent as memory that
@@ -135,6 +146,9 @@ pub fn run(call: &Call, lent: &mut Lent, out: &mut [i64]) {
                 out.0,
                 out.1,
             ),
+            Entry::Reason => {
+                mnemathor_reason(samples.0, samples.1, width, height, threshold, row, column, out.0, out.1)
+            }
         }
     }
 }

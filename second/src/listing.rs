@@ -4,51 +4,19 @@ use crate::answer::{Assignment, List, Refusal};
 use crate::catalogue;
 use crate::chain::{chain, Settings, CHAIN_ROOM};
 use crate::direction::Optics;
-use crate::frame;
-use crate::search;
-
-/// The program takes no larger frames.
-const MOST_SAMPLES: i128 = 32_000;
+use crate::{files, frame, search};
 
 /// The listing for the contents of settings.bin, catalogue.bin and frame.bin; a missing file is empty.
 pub fn listing(settings: &[u8], catalogue: &[u8], frame: &[u8]) -> String {
-    match read(settings, frame) {
+    match files::read(settings, frame) {
         Err(refusal) => refused(refusal),
         Ok((settings, samples)) => chain_listing(&settings, &samples, catalogue),
     }
 }
 
-fn refused(refusal: Refusal) -> String {
+/// The line that tells a refusal.
+pub fn refused(refusal: Refusal) -> String {
     format!("refused {} {}\n", refusal.number, refusal.place)
-}
-
-/// Settings and samples, where the two files have the lengths they must have.
-fn read(settings: &[u8], frame: &[u8]) -> Result<(Settings, Vec<u16>), Refusal> {
-    if settings.len() != 32 {
-        return Err(Refusal::new(1));
-    }
-    let number = |from: usize, bytes: usize| {
-        settings[from..from + bytes].iter().fold(0, |n, &b| 256 * n + i128::from(b))
-    };
-    let settings = Settings {
-        width: number(0, 2),
-        height: number(2, 2),
-        threshold: number(4, 2),
-        needed: number(6, 2),
-        cx: number(8, 4),
-        cy: number(12, 4),
-        focal: number(16, 4),
-        tolerance: number(24, 8),
-    };
-    let sides_fit = [settings.width, settings.height].iter().all(|side| (7..=1_024).contains(side));
-    if !sides_fit {
-        return Err(Refusal::new(1));
-    }
-    let samples = settings.width * settings.height;
-    if frame.len() as i128 != 2 * samples || samples > MOST_SAMPLES {
-        return Err(Refusal::new(2));
-    }
-    Ok((settings, frame.chunks(2).map(|word| u16::from_be_bytes([word[0], word[1]])).collect()))
 }
 
 fn chain_listing(settings: &Settings, samples: &[u16], catalogue: &[u8]) -> String {

@@ -1,14 +1,20 @@
-//! Stands in for the proved library's archive: its C functions, built on plain Rust. It lets `compare` and
-//! `bench` be tried without the archive.
+//! Stands in for the proved library's archive: its C functions, built on plain Rust, or on the wide
+//! implementation where plain Rust has no such call. It lets `compare` and `bench` be tried without the archive.
 
 use crate::answer::{numbers, Answer, Refusal};
-use crate::plain;
+use crate::{frame, plain};
 use std::slice::{from_raw_parts, from_raw_parts_mut};
 
-/// Writes the 64 numbers of the answer; with a shorter room nothing is done.
+/// A number of the interface as a wide one.
+fn wide(n: usize) -> i128 {
+    n as i128
+}
+
+/// Makes the call, and writes the 64 numbers of its answer where there is room for them.
 unsafe fn answer<T: Answer>(out: *mut i64, out_len: usize, call: impl FnOnce() -> Result<T, Refusal>) {
+    let numbers = numbers(&call());
     if out_len >= 64 {
-        from_raw_parts_mut(out, 64).copy_from_slice(&numbers(&call()));
+        from_raw_parts_mut(out, 64).copy_from_slice(&numbers);
     }
 }
 
@@ -135,5 +141,23 @@ unsafe extern "C" fn mnemathor_chain(
     let room = from_raw_parts_mut(room, room_len);
     answer(out, out_len, || {
         plain::chain(samples, width, height, threshold, cx, cy, f, catalogue, needed, tolerance, room)
+    });
+}
+
+#[no_mangle]
+unsafe extern "C" fn mnemathor_reason(
+    samples: *const u16,
+    samples_len: usize,
+    width: usize,
+    height: usize,
+    threshold: usize,
+    row: usize,
+    column: usize,
+    out: *mut i64,
+    out_len: usize,
+) {
+    let samples = from_raw_parts(samples, samples_len);
+    answer(out, out_len, || {
+        frame::reason(samples, wide(width), wide(height), wide(threshold), wide(row), wide(column))
     });
 }

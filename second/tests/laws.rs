@@ -1,7 +1,7 @@
 //! Laws that hold of any input: roots, verdicts and lists, votes and rows, the search against its
 //! definition.
 
-use second::answer::{Assignment, Kind};
+use second::answer::{numbers, Assignment, Kind, Reason};
 use second::call::Entry;
 use second::generate::{
     flat, random_stars, rising_ranking, shuffled_ranking, simple_stars, small_frame, View,
@@ -87,6 +87,64 @@ fn list_is_made_of_the_verdicts() {
             assert_eq!(list.stars.get(place), (place < 8).then_some(star));
         }
     }
+}
+
+/// The pixels of the window of a pixel that beat it, in row order: by hand, from the rule of beating.
+fn beating(samples: &[u16], width: usize, height: usize, row: usize, column: usize) -> Vec<(usize, usize)> {
+    let place = row * width + column;
+    (0..width * height)
+        .filter(|&other| {
+            let beats = if other < place {
+                samples[other] >= samples[place]
+            } else {
+                samples[other] > samples[place]
+            };
+            beats && (other / width).abs_diff(row) <= 3 && (other % width).abs_diff(column) <= 3
+        })
+        .map(|other| (other / width, other % width))
+        .collect()
+}
+
+#[test]
+fn reasons_are_true() {
+    let random = Random::new(7);
+    let mut given = [0; 5];
+    for _ in 0..300 {
+        let call = small_frame(&random, Entry::Reason);
+        let (samples, set) = (call.samples.values(), call.settings());
+        let (width, height) = (set.width as usize, set.height as usize);
+        for place in 0..samples.len() {
+            let (row, column) = (place / width, place % width);
+            let asked = (set.width, set.height, set.threshold, row as i128, column as i128);
+            let reason = frame::reason(&samples, asked.0, asked.1, asked.2, asked.3, asked.4).unwrap();
+            let kind = frame::verdict(&samples, asked.0, asked.1, asked.2, asked.3, asked.4).unwrap().kind;
+            // The reason's kind is the verdict's.
+            assert_eq!(numbers(&Ok(reason))[2], kind.number());
+            given[kind.number() as usize] += 1;
+            let between = [column, width - 1 - column, row, height - 1 - row];
+            match reason {
+                Reason::Dark { sample, threshold } => {
+                    assert_eq!((sample, threshold), (samples[place].into(), set.threshold as i64));
+                    assert!(sample < threshold);
+                }
+                Reason::Beaten { row: r, column: c } => {
+                    assert_eq!(beating(&samples, width, height, row, column)[0], (r, c));
+                }
+                Reason::Edge(side) => {
+                    let side = side as usize;
+                    assert!(between[side] < 3 && between[..side].iter().all(|&pixels| pixels >= 3));
+                    assert!(beating(&samples, width, height, row, column).is_empty());
+                }
+                Reason::Flat => assert!(between.iter().all(|&pixels| pixels >= 3)),
+                Reason::Measured(star) => {
+                    assert_eq!(kind, Kind::Measured(star));
+                    assert!(between.iter().all(|&pixels| pixels >= 3));
+                    assert!(beating(&samples, width, height, row, column).is_empty());
+                }
+            }
+        }
+    }
+    assert!(given[0] > 100 && given[1] > 100 && given[2] > 100 && given[4] > 100, "{given:?}");
 }
 
 /// The votes, word for word from the rule.

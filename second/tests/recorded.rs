@@ -64,7 +64,7 @@ impl Reader<'_> {
     /// Reads the buffers of a call and compares them with the ones it lends.
     fn check_buffers(&mut self, entry: Entry, lent: &Lent) {
         match entry {
-            Entry::Verdict | Entry::List => assert_eq!(self.samples(), lent.samples),
+            Entry::Verdict | Entry::List | Entry::Reason => assert_eq!(self.samples(), lent.samples),
             Entry::Direction => {}
             Entry::Catalogue => assert_eq!(self.catalogue(), lent.catalogue),
             Entry::Ranking => {
@@ -88,7 +88,7 @@ impl Reader<'_> {
 }
 
 fn scalar_count(entry: Entry) -> usize {
-    [5, 3, 5, 0, 1, 2, 0, 8][entry.index()]
+    [5, 3, 5, 0, 1, 2, 0, 8, 5][entry.index()]
 }
 
 #[test]
@@ -96,7 +96,7 @@ fn recorded_cases_are_sound() {
     let cases = cases();
     let bytes = input(cases);
     let text = output(cases);
-    assert!(bytes.len() < 3_000_000, "{} bytes of input", bytes.len());
+    assert!(bytes.len() < 4_000_000, "{} bytes of input", bytes.len());
     assert!(text.len() < 1_500_000, "{} bytes of output", text.len());
 
     let mut reader = Reader { rest: &bytes };
@@ -105,7 +105,9 @@ fn recorded_cases_are_sound() {
         assert_eq!(reader.number(1), i64::from(call.entry.kind()));
         assert_eq!(reader.scalars(scalar_count(call.entry)), call.scalars());
         reader.check_buffers(call.entry, &call.lend());
-        assert_eq!(call.run_plain(), case.outcome, "{:?} {:?}", call.entry, call.scalars());
+        if call.entry.in_plain() {
+            assert_eq!(call.run_plain(), case.outcome, "{:?} {:?}", call.entry, call.scalars());
+        }
     }
     assert_eq!(reader.rest, [0]);
 

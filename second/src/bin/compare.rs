@@ -23,7 +23,7 @@ const DIFFERENCES_SHOWN: u64 = 5;
 /// No call of the library may take more stack than this.
 const STACK: usize = 64 * 1024;
 /// Calls of each entry point in a round: more of the quick ones.
-const CALLS_A_ROUND: [usize; 8] = [4, 2, 8, 4, 2, 4, 8, 1];
+const CALLS_A_ROUND: [usize; ENTRIES.len()] = [4, 2, 8, 4, 2, 4, 8, 1, 4];
 
 #[derive(Default, Clone, Copy)]
 struct Count {
@@ -35,7 +35,7 @@ struct Count {
 
 /// The entry points' counts, and those of the calls that have no room for their numbers.
 struct Run {
-    entries: [Count; 8],
+    entries: [Count; ENTRIES.len()],
     nothing: Count,
     shown: u64,
 }
@@ -47,7 +47,7 @@ fn main() -> ExitCode {
         return ExitCode::FAILURE;
     };
     let random = Random::new(seed);
-    let mut run = Run { entries: [Count::default(); 8], nothing: Count::default(), shown: 0 };
+    let mut run = Run { entries: [Count::default(); ENTRIES.len()], nothing: Count::default(), shown: 0 };
     run_with_little_stack(&random);
     let start = Instant::now();
     while start.elapsed() < Duration::from_secs(seconds) {

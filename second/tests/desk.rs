@@ -1,0 +1,90 @@
+//! The desk's lines: each kind of reason, worked out by hand, and the refusals.
+
+use second::desk::why;
+
+/// The settings of a frame of this size with threshold 50; the desk looks at nothing else.
+fn settings(width: u16, height: u16, threshold: u16) -> Vec<u8> {
+    let mut bytes: Vec<u8> = [width, height, threshold].iter().flat_map(|n| n.to_be_bytes()).collect();
+    bytes.resize(32, 255);
+    bytes
+}
+
+/// A frame's file, 0 but for the given (row, column, sample).
+fn frame(width: usize, height: usize, pixels: &[(usize, usize, u16)]) -> Vec<u8> {
+    let mut samples = vec![0_u16; width * height];
+    for &(row, column, sample) in pixels {
+        samples[row * width + column] = sample;
+    }
+    samples.iter().flat_map(|sample| sample.to_be_bytes()).collect()
+}
+
+/// The line for a pixel of a 20 x 12 frame.
+fn line(pixels: &[(usize, usize, u16)], row: u64, column: u64) -> String {
+    why(&settings(20, 12, 50), &frame(20, 12, pixels), row, column)
+}
+
+#[test]
+fn dark_gives_sample_and_threshold() {
+    assert_eq!(line(&[(5, 5, 12)], 5, 5), "dark 12 50\n");
+    assert_eq!(line(&[(5, 5, 49)], 5, 5), "dark 49 50\n");
+    assert_eq!(line(&[], 11, 19), "dark 0 50\n");
+}
+
+#[test]
+fn beaten_names_the_first_pixel() {
+    // An equal one before it beats, an equal one after it does not.
+    assert_eq!(line(&[(5, 5, 80), (5, 6, 80)], 5, 6), "beaten 5 5\n");
+    assert_eq!(line(&[(5, 5, 80), (5, 6, 80), (5, 7, 81), (4, 8, 90)], 5, 5), "beaten 4 8\n");
+    assert_eq!(line(&[(5, 5, 80), (5, 6, 80), (5, 7, 81), (8, 8, 90)], 5, 5), "beaten 5 7\n");
+    assert_eq!(line(&[(5, 5, 80), (2, 2, 80), (2, 3, 4_000)], 5, 5), "beaten 2 2\n");
+    // Beaten comes before edge.
+    assert_eq!(line(&[(0, 0, 60), (3, 3, 61)], 0, 0), "beaten 3 3\n");
+}
+
+#[test]
+fn edge_names_the_first_side() {
+    let alone = |row: usize, column: usize| line(&[(row, column, 60)], row as u64, column as u64);
+    assert_eq!(alone(5, 2), "edge left\n");
+    assert_eq!(alone(5, 17), "edge right\n");
+    assert_eq!(alone(2, 5), "edge top\n");
+    assert_eq!(alone(9, 5), "edge bottom\n");
+    assert_eq!(alone(0, 0), "edge left\n");
+    assert_eq!(alone(11, 0), "edge left\n");
+    assert_eq!(alone(0, 19), "edge right\n");
+    assert_eq!(alone(11, 19), "edge right\n");
+    // On the smallest frame one pixel has three on every side.
+    let smallest = |row: usize, column: usize| {
+        why(&settings(7, 7, 50), &frame(7, 7, &[(row, column, 60)]), row as u64, column as u64)
+    };
+    assert_eq!(smallest(4, 3), "edge bottom\n");
+    assert_eq!(smallest(2, 4), "edge right\n");
+    assert_eq!(smallest(3, 3), "measured 768 768 1440\n");
+}
+
+#[test]
+fn measured_gives_position_and_brightness() {
+    // Weights 24 x 100 and 24 x 50: the middle lies a third of a pixel to the left.
+    assert_eq!(line(&[(5, 5, 100), (5, 4, 50)], 5, 5), "measured 1195 1280 3600\n");
+    assert_eq!(line(&[(3, 16, 100)], 3, 16), "measured 4096 768 2400\n");
+    assert_eq!(line(&[(8, 3, 100)], 8, 3), "measured 768 2048 2400\n");
+}
+
+#[test]
+fn refusals() {
+    let (sound, samples) = (settings(20, 12, 50), frame(20, 12, &[]));
+    assert_eq!(why(&[], &samples, 0, 0), "refused 1 0\n");
+    assert_eq!(why(&sound[..31], &samples, 0, 0), "refused 1 0\n");
+    assert_eq!(why(&[&sound[..], &[0]].concat(), &samples, 0, 0), "refused 1 0\n");
+    assert_eq!(why(&settings(6, 12, 50), &samples, 99, 0), "refused 1 0\n");
+    assert_eq!(why(&settings(20, 1_025, 50), &samples, 0, 0), "refused 1 0\n");
+    assert_eq!(why(&sound, &[], 0, 0), "refused 2 0\n");
+    assert_eq!(why(&sound, &samples[1..], 0, 0), "refused 2 0\n");
+    assert_eq!(why(&settings(200, 160, 50), &frame(200, 160, &[]), 0, 0), "dark 0 50\n");
+    assert_eq!(why(&settings(200, 161, 50), &frame(200, 161, &[]), 0, 0), "refused 2 0\n");
+    assert_eq!(why(&settings(20, 12, 0), &samples, 12, 0), "refused 3 0\n");
+    assert_eq!(why(&settings(20, 12, 4_096), &samples, 0, 0), "refused 3 0\n");
+    assert_eq!(line(&[(3, 7, 4_096), (4, 0, 5_000)], 12, 0), "refused 4 67\n");
+    assert_eq!(line(&[], 12, 0), "refused 15 0\n");
+    assert_eq!(line(&[], 0, 20), "refused 15 0\n");
+    assert_eq!(line(&[], u64::MAX, u64::MAX), "refused 15 0\n");
+}
