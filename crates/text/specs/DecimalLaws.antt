@@ -12,6 +12,7 @@ use lib.Dec.{ltb}
 use lib.ListN.{length, getD, length-append, List·getD-append}
 use lib.Seq.{getD-at}
 use Rattle.text.specs.Decimal.{digit, spelled, decimal}
+use Rattle.text.specs.Parse.{valueFrom, valueOf}
 
 -- ---- the two ways that a number is spelled
 
@@ -46,14 +47,7 @@ unfolding decimal
 decimal-large zero h = absurd (omega arith)
 decimal-large (suc n) h = spelled-large n (suc n) h ∙ ap (λ (t : List ℕ). t ++ (digit (suc n % 10) ∷ [])) (spelled-same n (suc n / 10) (suc n / 10) (omega arith) (omega arith))
 
--- ---- the value of a text of digits
-
-unfoldable pub valueFrom : ℕ → List ℕ → ℕ
-valueFrom v [] = v
-valueFrom v (b ∷ bytes) = valueFrom (10 * v + (b - 48)) bytes
-
-abbrev pub valueOf : List ℕ → ℕ
-valueOf bytes = valueFrom 0 bytes
+-- ---- what its digits are worth
 
 value-behind : (v : ℕ) (bytes : List ℕ) (b : ℕ) → valueFrom v (bytes ++ (b ∷ [])) ≡ 10 * valueFrom v bytes + (b - 48)
 unfolding valueFrom

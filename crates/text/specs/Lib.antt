@@ -1,6 +1,11 @@
 -- The definitions that the contracts of `text` cite, and their laws.
 pub mod Ascii
 pub mod Decimal
+pub mod Parse
 pub mod DecimalLaws
+pub mod ParseLaws
 pub mod Written
 pub mod WrittenLaws
+pub mod Room
+pub mod RoomLaws
+pub mod Refused

@@ -1,9 +1,15 @@
 // Lines of text as bytes in a lent room: words and numbers in decimal, one behind the other. A place is handed in and the next one comes back, so a line is a
-// run of calls. What does not fit is cut at the room's end.
+// run of calls. What does not fit is cut at the room's end. And the way back: a word as a number.
+mod parse;
+
+pub use parse::Parsed;
+pub use parse::parse_number;
+use refusal::Refusal;
 ghost use mathlib.Core.List.{[], _∷_, _++_};
 ghost use Prim.Native.Nat.{_+_, _≤_};
 ghost use lib.ListN.{length};
 ghost use Rattle.text.specs.Decimal.{decimal, signedDecimal};
+ghost use Rattle.text.specs.Refused.{refusalLine};
 ghost use Rattle.text.specs.Written.{Wrote};
 
 // Puts one byte at a place.
@@ -62,4 +68,14 @@ pub fn labelled(room: &mut [u8], at: usize, bytes: &[u8], n: u64) -> usize
 {
     let next = word(room, at, bytes);
     number(room, next, n)
+}
+
+// Puts the line of a refusal: "refused", the number and the place.
+pub fn refused(room: &mut [u8], at: usize, refusal: Refusal) -> usize
+    ensures { λ r. ⌜ Wrote (now (room .entry)) at (refusalLine refusal) (now (room .exit)) r ⌝ }
+    ensures { λ r. ⌜ r ≤ at + 50 ⌝ }
+{
+    let number = labelled(room, at, b"refused ", refusal.number as u64);
+    let place = labelled(room, number, b" ", refusal.place as u64);
+    word(room, place, b"\n")
 }
