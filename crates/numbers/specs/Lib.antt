@@ -4,3 +4,4 @@ pub mod Within
 pub mod Num
 pub mod Order
 pub mod Root
+pub mod Near

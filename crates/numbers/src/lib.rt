@@ -1,8 +1,10 @@
 // Whole numbers: the size of a signed number and the root of an unsigned one.
 ghost use mathlib.Core.Path.{_≡_};
+ghost use Prim.Native.Nat.{_≤_, _<_};
 ghost use lib.Dec.{leb};
 ghost use lib.IntN.{natAbs};
 ghost use Rattle.numbers.specs.Root.{root as rootOf};
+ghost use Rattle.numbers.specs.Near.{Near};
 
 // The size of x. The least number has one too: it is moved up by one before its sign is turned.
 pub fn abs(x: i64) -> u64
@@ -22,19 +24,51 @@ pub fn within(x: i64, bound: u64) -> bool
     abs(x) <= bound
 }
 
-// The root of n: the greatest whole number whose square does not exceed n. The interval that holds it is halved until it has one number.
+// A root, and the number of passes in which it was found.
+struct Rooted {
+    root: u64,
+    passes: u64,
+}
+
+// The mean of the power of two at half of n's length and of n divided by it.
+fn first_guess(n: u64) -> u64
+    requires { ⌜ 0 < n ⌝ }
+    ensures { λ r. ⌜ Near 12 (rootOf n) r ⌝ }
+{
+    let half = (64 - u64::leading_zeros(n)) / 2;
+    ((1u64 << half) + (n >> half)) / 2
+}
+
+// The root of n by Heron's rule. A pass doubles the number of right digits, so that after three the guess is the root or one more.
+fn root_in_passes(n: u64) -> Rooted
+    ensures { λ r. ⌜ (r .root ≡ rootOf n) × (r .passes ≤ 3) ⌝ }
+{
+    if n == 0 {
+        return Rooted { root: 0, passes: 0 };
+    }
+    let mut guess = first_guess(n);
+    let mut passes: u64 = 0;
+    while passes < 3 {
+        guess = (guess + n / guess) / 2;
+        passes += 1;
+    }
+    // the square of the guess, less 1, fits where the square may not
+    if (guess - 1) * (guess + 1) < n {
+        Rooted {
+            root: guess,
+            passes,
+        }
+    } else {
+        Rooted {
+            root: guess - 1,
+            passes,
+        }
+    }
+}
+
+// The root of n: the greatest whole number whose square does not exceed n.
 pub fn root(n: u64) -> u64
     ensures { λ r. ⌜ r ≡ rootOf n ⌝ }
 {
-    let mut low: u64 = 0;
-    let mut high: u64 = 0x1_0000_0000;
-    while high - low > 1 {
-        let middle = low + (high - low) / 2;
-        if middle * middle <= n {
-            low = middle;
-        } else {
-            high = middle;
-        }
-    }
-    low
+    root_in_passes(n).root
 }
