@@ -1,19 +1,24 @@
-//! Links the proved library's archive `libexports.a` from the folder named by EXPORTS_DIR.
-//! Without the variable nothing is linked: only `compare` and `bench` need the archive.
+//! Links the proved library's archives from the folder named by EXPORTS_DIR: `libexports.a`, which only `compare` and
+//! `bench` need, and `libnumbers.a`, which only `roots` needs. Without the variable nothing is linked.
 
 use std::env;
 
 fn main() {
     println!("cargo:rerun-if-changed=build.rs");
     println!("cargo:rerun-if-env-changed=EXPORTS_DIR");
-    let linked = env::var_os("CARGO_FEATURE_LINKED").is_some();
-    let stub = env::var_os("CARGO_FEATURE_STUB").is_some();
-    if !linked || stub {
-        return;
+    let has = |feature: &str| env::var_os(format!("CARGO_FEATURE_{feature}")).is_some();
+    if has("LINKED") && !has("STUB") {
+        link("exports");
     }
+    if has("ROOTS") {
+        link("numbers");
+    }
+}
+
+fn link(archive: &str) {
     if let Ok(folder) = env::var("EXPORTS_DIR") {
-        println!("cargo:rerun-if-changed={folder}/libexports.a");
+        println!("cargo:rerun-if-changed={folder}/lib{archive}.a");
         println!("cargo:rustc-link-search=native={folder}");
-        println!("cargo:rustc-link-lib=static:-bundle=exports");
+        println!("cargo:rustc-link-lib=static:-bundle={archive}");
     }
 }

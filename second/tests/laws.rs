@@ -6,6 +6,7 @@ use second::call::Entry;
 use second::generate::{
     flat, random_stars, rising_ranking, shuffled_ranking, simple_stars, small_frame, View,
 };
+use second::plain::root_by_halving;
 use second::random::Random;
 use second::sky::{self, record};
 use second::{catalogue, dense, dot, frame, ranking, root, search};
@@ -22,6 +23,32 @@ fn root_is_the_greatest_whole_number_within() {
         let r = i128::from(random.between(0, 1 << 40));
         [r * r, r * r + 1, (r * r - 1).max(0), r * r + 2 * r].into_iter().for_each(check);
     }
+    // Every length up to 64 bits, and the last roots of 64 bits.
+    for bits in 0..64 {
+        let n = 1_i128 << bits;
+        [n - 1, n, n + 1].into_iter().for_each(check);
+    }
+    let last = (1_i128 << 32) - 1;
+    for r in last - 1_000..=last {
+        [r * r - 1, r * r, r * r + 1, r * r + 2 * r].into_iter().for_each(check);
+    }
+    assert_eq!(root(i128::from(u64::MAX)), last);
+    assert_eq!(root(last * last - 1), last - 1);
+}
+
+#[test]
+fn plain_roots_are_the_wide_ones() {
+    let random = Random::new(11);
+    let check = |n: u64| {
+        assert_eq!(i128::from(root_by_halving(n)), root(i128::from(n)));
+        assert_eq!(i128::from(n.isqrt()), root(i128::from(n)));
+    };
+    for _ in 0..2_000 {
+        let r = random.next() >> 32;
+        [r * r, r * r + 1, (r * r).saturating_sub(1), r * r + 2 * r].into_iter().for_each(check);
+        check(random.next() >> random.below(64));
+    }
+    [0, 1, u64::MAX - 1, u64::MAX].into_iter().for_each(check);
 }
 
 #[test]

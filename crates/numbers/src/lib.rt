@@ -24,13 +24,13 @@ pub fn within(x: i64, bound: u64) -> bool
     abs(x) <= bound
 }
 
-// A root, and the number of passes in which it was found.
+// A root, and the number of passes through the loop that found it.
 struct Rooted {
     root: u64,
     passes: u64,
 }
 
-// The mean of the power of two at half of n's length and of n divided by it.
+// The mean of the power of two at half of n's length and of n divided by it: at most a twelfth of the root, and 3 / 2, above the root.
 fn first_guess(n: u64) -> u64
     requires { ⌜ 0 < n ⌝ }
     ensures { λ r. ⌜ Near 12 (rootOf n) r ⌝ }
@@ -39,7 +39,7 @@ fn first_guess(n: u64) -> u64
     ((1u64 << half) + (n >> half)) / 2
 }
 
-// The root of n by Heron's rule. A pass doubles the number of right digits, so that after three the guess is the root or one more.
+// The root of n by Heron's rule. A pass about doubles the number of right digits, so that after three the guess is the root or one more.
 fn root_in_passes(n: u64) -> Rooted
     ensures { λ r. ⌜ (r .root ≡ rootOf n) × (r .passes ≤ 3) ⌝ }
 {
@@ -71,4 +71,12 @@ pub fn root(n: u64) -> u64
     ensures { λ r. ⌜ r ≡ rootOf n ⌝ }
 {
     root_in_passes(n).root
+}
+
+// The root for C and Rust: the benchmark times it by itself.
+#[no_mangle]
+pub extern "C" fn mnemathor_root(n: u64) -> u64
+    ensures { λ r. ⌜ r ≡ rootOf n ⌝ }
+{
+    root(n)
 }
