@@ -1,2 +1,3 @@
 -- The laws that proofs above cite.
 pub mod Rules
+pub mod Turns

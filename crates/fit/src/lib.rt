@@ -1,11 +1,14 @@
 // The rule of fit: whether a star may stand at a direction beside the words before it. Another rule changes this crate.
+pub mod mirror;
+
 ghost use mathlib.Core.Path.{_≡_};
+ghost use mathlib.Core.Bool.{_&&_};
 ghost use Prim.Native.Nat.{_+_, _*_, _≤_, _<_};
 ghost use lib.ListN.{length};
 ghost use Rattle.numbers.specs.Within.{Within};
 ghost use Rattle.vectors.specs.Triples.{AllWithin, pairDot};
 ghost use Rattle.vectors.specs.Agree.{agreeing};
-ghost use Rattle.fit.specs.Fit.{Measured, Tested, besides};
+ghost use Rattle.fit.specs.Fit.{Measured, Tested, Seen, besides, upright};
 
 // How many directions and stars there are, how many directions need a star, and how far apart two dot products may be.
 pub struct Setup {
@@ -74,4 +77,26 @@ pub fn passes(
         }
     }
     true
+}
+
+// Whether the star may stand there by both rules, over every two and every three. The threes are asked only of a star that agrees.
+pub fn may_stand(
+    stars: &[i32],
+    count: usize,
+    tolerance: u64,
+    chosen: &[u16],
+    dots: &[i64],
+    turns: &[i64],
+    i: usize,
+    star: usize,
+) -> bool
+    requires { ⌜ Tested (now stars) count (now chosen) (now dots) i ⌝ }
+    requires { ⌜ Seen (now stars) count (now chosen) (now turns) i ⌝ }
+    requires { ⌜ star < count ⌝ }
+    ensures { λ r. ⌜ r ≡ (besides (now (stars .entry)) count tolerance (now (dots .entry)) i (now (chosen .entry)) star && upright (now (stars .entry)) count (now (turns .entry)) i (now (chosen .entry)) star) ⌝ }
+{
+    if !passes(stars, count, tolerance, chosen, dots, i, star) {
+        return false;
+    }
+    mirror::is_upright(stars, count, chosen, turns, i, star)
 }

@@ -1,0 +1,41 @@
+-- The triple products of a direction with each two before it, by their places. Assumes nothing.
+use mathlib.Core.Path.{_≡_, subst, _∙_}
+use mathlib.Core.List.{List}
+use mathlib.Core.Logic.{⊎-elim}
+use Prim.Native.Nat.{ℕ, _+_, _*_, _/_, _%_, _≤_, _<_}
+use native.Mathlib.Omega.{arith}
+use native.Mathlib.Nat.{eq-or-lt-of-le}
+use lib.IntN.{ℤ, pos}
+use lib.ListN.{getD, set, length}
+use lib.Seq.{getD-set-same, getD-set-other}
+use Rattle.vectors.specs.Triples.{tripleAt}
+use Rattle.handedness.specs.Handedness.{tripleOf}
+use Rattle.fit.specs.Fit.{Turned}
+
+-- z is the triple product of the directions j, k and i where these are in list order
+abbrev pub Turn : List ℤ → ℕ → ℕ → ℕ → ℤ → Type 0
+Turn directions i j k z = j < k → k < i → z ≡ tripleOf (tripleAt directions j) (tripleAt directions k) (tripleAt directions i)
+
+-- the first q of them, place by place
+abbrev pub TurnsTo : List ℤ → ℕ → List ℤ → ℕ → Type 0
+TurnsTo directions i turns q = (p : ℕ) → p < q → Turn directions i (p / 8) (p % 8) (getD turns p (pos 0))
+
+module _ (directions : List ℤ) (i : ℕ) where
+  pub one-turn-more : (turns : List ℤ) (q : ℕ) (z : ℤ) → q < length turns → TurnsTo directions i turns q → Turn directions i (q / 8) (q % 8) z → TurnsTo directions i (set turns q z) (q + 1)
+  one-turn-more turns q z l h new p lp a b =
+      ⊎-elim
+      (λ (e : p ≡ q). rw e (getD-set-same turns q z (pos 0) l ∙ new (rw e at a) (rw e at b)))
+      (λ (e : p < q). getD-set-other turns q p z (pos 0) (λ f. omega arith) ∙ h p e a b)
+      (eq-or-lt-of-le (omega arith))
+
+  pub all-turns : (turns : List ℤ) → i < 8 → length turns ≡ 64 → TurnsTo directions i turns 64 → Turned directions i turns
+  all-turns turns l size h =
+      record {
+        size = size;
+        at = λ j k jk ki.
+            let d : (j * 8 + k) / 8 ≡ j = omega arith in
+            let m : (j * 8 + k) % 8 ≡ k = omega arith in
+            let t : Turn directions i ((j * 8 + k) / 8) ((j * 8 + k) % 8) (getD turns (j * 8 + k) (pos 0)) = h (j * 8 + k) (omega arith) in
+            subst (λ (n : ℕ). Turn directions i j n (getD turns (j * 8 + k) (pos 0))) m
+            (subst (λ (n : ℕ). Turn directions i n ((j * 8 + k) % 8) (getD turns (j * 8 + k) (pos 0))) d t) jk ki;
+      }

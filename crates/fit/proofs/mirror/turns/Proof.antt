@@ -1,0 +1,59 @@
+-- `fit::mirror::turns` meets its contract. The invariant: the products made so far are right. Assumes nothing.
+use mathlib.Core.Path.{_≡_, refl}
+use Prim.Native.Nat.{_-_, _≤_}
+use native.Mathlib.Omega.{arith}
+use lib.ListN.{length, length-set}
+use mir.Syntax.{w64}
+use Rattle.numbers.specs.Num.{kept}
+use Rattle.fit.proofs.Turns.{TurnsTo, one-turn-more, all-turns}
+use Rattle.fit.proofs.mirror.turns.Statement.{statement}
+use Rattle.fit.proofs.mirror.turns.Tie as tie
+
+abbrev Inv-loop : tie.InvT-loop
+Inv-loop directions i turns₀ q₀ turns q = (q ≤ 64) × ((length turns ≡ 64) × TurnsTo directions i turns q)
+
+abbrev μ-loop : tie.MeasureT-loop
+μ-loop directions i turns₀ q₀ turns q = 64 - q
+
+loop-holds : tie.Need-loop-holds Inv-loop μ-loop
+loop-holds c = (omega arith, (refl, λ p l. absurd (omega arith)))
+
+turn-of-requires : tie.Need-turn-of-requires Inv-loop μ-loop
+turn-of-requires c κs = let o = c .before .before in (omega arith, o .pre .2)
+
+mul-turns : tie.Need-mul-turns Inv-loop μ-loop
+mul-turns c = omega arith
+
+array-set-from-turns : tie.Need-array-set-from-turns Inv-loop μ-loop
+array-set-from-turns c = omega arith
+
+add-q : tie.Need-add-q Inv-loop μ-loop
+add-q c = omega arith
+
+loop-less : tie.Need-loop-less Inv-loop μ-loop
+loop-less c = omega arith
+
+loop-again : tie.Need-loop-again Inv-loop μ-loop
+loop-again c =
+    let l = c .before .before .loop in
+    (omega arith, (simp length-set (l .inv .1 .0), one-turn-more _ _ (l .turns) (l .q) _ (omega (arith, l .inv .1 .0)) (l .inv .1 .1) (λ a b. kept w64 (c .turn-of .ok) (c .turn-of .ensures a b))))
+
+returns : tie.Need-returns Inv-loop μ-loop
+returns c =
+    let l = c .before .loop in
+    all-turns _ _ _ (c .before .before .pre .0) (l .inv .1 .0) (λ p lp. l .inv .1 .1 p (omega arith))
+
+pub turns-spec : {M : Type 1} → statement M
+turns-spec =
+    tie.close
+    (tie.spec
+    Inv-loop
+    μ-loop
+    loop-holds
+    turn-of-requires
+    mul-turns
+    array-set-from-turns
+    add-q
+    loop-less
+    loop-again
+    returns)
