@@ -1,4 +1,4 @@
-// Cases G to O: directions, attitudes and searches.
+// Cases G to S: directions, attitudes and searches.
 use crate::say;
 use attitude::Attitude;
 use direction::Direction;
@@ -53,12 +53,10 @@ fn stars(words: [u16; 8], directions: usize) {
     }
 }
 
-// The stars are the three axes, as records 1, 2 and 3 of a catalogue; 10^9 is 3b 9a ca 00 in bytes.
-fn search(letter: &[u8], directions: &[i32], ranking: &[u16]) {
+// A catalogue of three stars, a needed count of 3, and a tolerance.
+fn search(letter: &[u8], directions: &[i32], catalogue: &[u8], tolerance: u64, ranking: &[u16]) {
     say::text(letter);
-    let axes =
-        b"\0\0\0\x01\x3b\x9a\xca\0\0\0\0\0\0\0\0\0\0\0\0\x02\0\0\0\0\x3b\x9a\xca\0\0\0\0\0\0\0\0\x03\0\0\0\0\0\0\0\0\x3b\x9a\xca\0";
-    let answer = search::search(directions, axes, 3, 0, ranking);
+    let answer = search::search(directions, catalogue, 3, tolerance, ranking);
     let outcome = answer.outcome;
     match outcome {
         Outcome::Refused(refusal) => say::refused(refusal),
@@ -68,6 +66,13 @@ fn search(letter: &[u8], directions: &[i32], ranking: &[u16]) {
         }
     }
     say::end();
+}
+
+// Whose stars are the three axes, as records 1, 2 and 3; 10^9 is 3b 9a ca 00 in bytes.
+fn search_axes(letter: &[u8], directions: &[i32], ranking: &[u16]) {
+    let axes =
+        b"\0\0\0\x01\x3b\x9a\xca\0\0\0\0\0\0\0\0\0\0\0\0\x02\0\0\0\0\x3b\x9a\xca\0\0\0\0\0\0\0\0\x03\0\0\0\0\0\0\0\0\x3b\x9a\xca\0";
+    search(letter, directions, axes, 0, ranking);
 }
 
 fn vectors() {
@@ -95,10 +100,10 @@ fn vectors() {
 
 fn searches() {
     let three = [1000000000i32, 0, 0, 0, 1000000000, 0, 0, 0, 1000000000];
-    search(b"L", &three, &[0u16, 1, 2, 0, 1, 2, 0, 1, 2]);
-    search(b"M", &three, &[2u16, 1, 0, 0, 1, 2, 0, 1, 2]);
+    search_axes(b"L", &three, &[0u16, 1, 2, 0, 1, 2, 0, 1, 2]);
+    search_axes(b"M", &three, &[2u16, 1, 0, 0, 1, 2, 0, 1, 2]);
     let two = [1000000000i32, 0, 0, 0, 1000000000, 0];
-    search(b"N", &two, &[0u16, 1, 2, 0, 1, 2]);
+    search_axes(b"N", &two, &[0u16, 1, 2, 0, 1, 2]);
     let four = [
         600000000i32,
         800000000,
@@ -113,10 +118,72 @@ fn searches() {
         0,
         1000000000,
     ];
-    search(b"O", &four, &[0u16, 1, 2, 0, 1, 2, 0, 1, 2, 0, 1, 2]);
+    search_axes(b"O", &four, &[0u16, 1, 2, 0, 1, 2, 0, 1, 2, 0, 1, 2]);
+}
+
+// The rule over threes. 600,000,000 is 23 c3 46 00, its opposite dc 3c ba 00, 800,000,000 2f af 08 00, and -1,000 ff ff fc 18.
+fn mirrors() {
+    let rising = [0u16, 1, 2, 0, 1, 2, 0, 1, 2];
+    let listed = [
+        -600000000i32,
+        0,
+        800000000,
+        600000000,
+        0,
+        800000000,
+        0,
+        600000000,
+        800000000,
+    ];
+    let exchanged =
+        b"\0\0\0\x0b\x23\xc3\x46\0\0\0\0\0\x2f\xaf\x08\0\0\0\0\x16\xdc\x3c\xba\0\0\0\0\0\x2f\xaf\x08\0\0\0\0\x21\0\0\0\0\x23\xc3\x46\0\x2f\xaf\x08\0";
+    search(b"P", &listed, exchanged, 0, &[0u16, 1, 2, 0, 1, 2, 2, 0, 1]);
+    let small = [
+        1000000000i32,
+        0,
+        0,
+        600000000,
+        800000000,
+        0,
+        0,
+        1000000000,
+        1000,
+    ];
+    let small_turn =
+        b"\0\0\0\x01\x3b\x9a\xca\0\0\0\0\0\0\0\0\0\0\0\0\x02\x23\xc3\x46\0\x2f\xaf\x08\0\0\0\0\0\0\0\0\x03\0\0\0\0\x3b\x9a\xca\0\xff\xff\xfc\x18";
+    search(b"Q", &small, small_turn, 0, &rising);
+    let least = [
+        1000000000i32,
+        0,
+        0,
+        0,
+        1000000000,
+        0,
+        600000000,
+        800000000,
+        1000,
+    ];
+    let least_turn =
+        b"\0\0\0\x01\x3b\x9a\xca\0\0\0\0\0\0\0\0\0\0\0\0\x02\0\0\0\0\x3b\x9a\xca\0\0\0\0\0\0\0\0\x03\x23\xc3\x46\0\x2f\xaf\x08\0\xff\xff\xfc\x18";
+    search(b"R", &least, least_turn, 0, &rising);
+    let less = [
+        999999000i32,
+        0,
+        0,
+        0,
+        1000000000,
+        1000,
+        1000000000,
+        -1000,
+        1000,
+    ];
+    let third_turn =
+        b"\0\0\0\x01\x3b\x9a\xca\0\0\0\0\0\0\0\0\0\0\0\0\x02\0\0\0\0\x3b\x9a\xca\0\0\0\0\0\0\0\0\x03\x3b\x9a\xca\0\0\0\0\0\xff\xff\xfc\x18";
+    search(b"S", &less, third_turn, 10000000000000, &rising);
 }
 
 pub fn run() {
     vectors();
     searches();
+    mirrors();
 }

@@ -38,11 +38,12 @@ use Rattle.catalogue.specs.Check as catalogue
 use Rattle.catalogue.specs.Stars.{starsTo, starsOf}
 use Rattle.assignment.specs.Tests.{all, some}
 use Rattle.assignment.specs.Problem.{assigned}
-use Rattle.assignment.specs.Fit.{pairs}
+use Rattle.handedness.specs.Handedness.{tripleOf, mirrored}
+use Rattle.assignment.specs.Fit.{pairs, threes, pairsAndThrees}
 use Rattle.assignment.specs.Run.{row, run, firstFit}
 use Rattle.assignment.proofs.Tests.{never, and-left, and-right, or-none, all-true}
 use Rattle.search.specs.Once.{clash, lentOf}
-use Rattle.fit.specs.Fit.{agreement, standing}
+use Rattle.fit.specs.Fit.{agreement, mirroring, standing}
 use Rattle.search.specs.Refusals as refusals
 use Rattle.search.specs.declared.Identification.{Identification}
 use Rattle.search.specs.Identified.{padTo, identificationOf}
@@ -102,7 +103,7 @@ n-G = record { below = lit≤ tt; above = lit< tt }
 n-H : Root (65536 * (square (minus 12288) + square (pos 0) + square (pos 16384))) 5242880
 n-H = record { below = lit≤ tt; above = lit< tt }
 
--- ---- L to O: the promise leaves one answer, the computed one
+-- ---- L to S: the promise leaves one answer, the computed one
 
 only :
     {directions : List ℤ} {bytes : List ℕ} {needed tolerance : ℕ} {words : List ℕ} {answer : Identification} →
@@ -130,13 +131,13 @@ attitudes-hold : AllHold (drop 13 table) → AllHold (drop 10 table)
 unfolding table
 attitudes-hold below = (case-I, (case-J, (case-K, below)))
 
--- L to O
+-- L to S
 searches-hold : AllHold (drop 13 table)
 unfolding table lowest identificationOf padTo refusals.refusalsOf refusals.rowsBeside refusals.demandOk lentOf clash first firstFrom some all
     listOk allWithin
     catalogue.refusalsOf catalogue.lengthOk catalogue.brokenOf recordOk directionOk identityRises componentOf identityOf numberAt signedOf starsOf starsTo
-    firstFit run row assigned standing pairs agreement agreeing pairDot tripleAt
-searches-hold = (only refl, (only refl, (only refl, (only refl, tt))))
+    firstFit run row assigned standing pairsAndThrees pairs threes agreement agreeing pairDot mirroring mirrored tripleOf tripleAt
+searches-hold = (only refl, (only refl, (only refl, (only refl, (only refl, (only refl, (only refl, (only refl, tt))))))))
 
 pub bench : AllHold table
 bench = verdicts-hold (directions-hold (attitudes-hold searches-hold))

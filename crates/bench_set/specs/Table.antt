@@ -1,5 +1,5 @@
--- Document 01, "The bench set": cases A to O, one under the other, with the numbers that stand there. Where a case names only some numbers of a
--- verdict the rest follow from the same rules, worked out by hand. Assumes nothing.
+-- Document 01, "The bench set": cases A to O, one under the other, with the numbers that stand there, and P to S for T-03's rule over threes. Where a case
+-- names only some numbers of a verdict the rest follow from the same rules, worked out by hand. Assumes nothing.
 use mathlib.Core.List.{List, [], _∷_, _++_}
 use Prim.Native.Nat.{ℕ}
 use lib.IntN.{ℤ, pos, negℤ}
@@ -71,6 +71,51 @@ axes =
     ++ (0 ∷ 0 ∷ 0 ∷ 2 ∷ empty ++ full ++ empty)
     ++ (0 ∷ 0 ∷ 0 ∷ 3 ∷ empty ++ empty ++ full)
 
+-- ---- T-03: the listing's sky with two stars exchanged, and stars whose triple product is exactly -10^12, or smaller in size
+
+abbrev pub three : ℤ → ℤ → ℤ → List ℤ
+three x y z = x ∷ y ∷ z ∷ []
+
+-- 600,000,000, its opposite, 800,000,000 and -1,000 in four bytes
+abbrev pub six : List ℕ
+six = 35 ∷ 195 ∷ 70 ∷ 0 ∷ []
+
+abbrev pub minusSix : List ℕ
+minusSix = 220 ∷ 60 ∷ 186 ∷ 0 ∷ []
+
+abbrev pub eight : List ℕ
+eight = 47 ∷ 175 ∷ 8 ∷ 0 ∷ []
+
+abbrev pub minusThousand : List ℕ
+minusThousand = 255 ∷ 255 ∷ 252 ∷ 24 ∷ []
+
+abbrev pub exchanged : List ℕ
+exchanged =
+    (0 ∷ 0 ∷ 0 ∷ 11 ∷ six ++ empty ++ eight)
+    ++ (0 ∷ 0 ∷ 0 ∷ 22 ∷ minusSix ++ empty ++ eight)
+    ++ (0 ∷ 0 ∷ 0 ∷ 33 ∷ empty ++ six ++ eight)
+
+-- thousandths (10^6, 0, 0), (600,000, 800,000, 0), (0, 10^6, -1): -8 x 10^11
+abbrev pub smallTurn : List ℕ
+smallTurn =
+    (0 ∷ 0 ∷ 0 ∷ 1 ∷ full ++ empty ++ empty)
+    ++ (0 ∷ 0 ∷ 0 ∷ 2 ∷ six ++ eight ++ empty)
+    ++ (0 ∷ 0 ∷ 0 ∷ 3 ∷ empty ++ full ++ minusThousand)
+
+-- thousandths (10^6, 0, 0), (0, 10^6, 0), (600,000, 800,000, -1): -10^12
+abbrev pub leastTurn : List ℕ
+leastTurn =
+    (0 ∷ 0 ∷ 0 ∷ 1 ∷ full ++ empty ++ empty)
+    ++ (0 ∷ 0 ∷ 0 ∷ 2 ∷ empty ++ full ++ empty)
+    ++ (0 ∷ 0 ∷ 0 ∷ 3 ∷ six ++ eight ++ minusThousand)
+
+-- the same with (10^6, 0, -1) for the third: -10^12 too
+abbrev pub leastTurn′ : List ℕ
+leastTurn′ =
+    (0 ∷ 0 ∷ 0 ∷ 1 ∷ full ++ empty ++ empty)
+    ++ (0 ∷ 0 ∷ 0 ∷ 2 ∷ empty ++ full ++ empty)
+    ++ (0 ∷ 0 ∷ 0 ∷ 3 ∷ full ++ empty ++ minusThousand)
+
 abbrev pub rising : List ℕ
 rising = 0 ∷ 1 ∷ 2 ∷ []
 
@@ -123,4 +168,15 @@ table =
     -- O
     ∷ search ((pos 600000000 ∷ pos 800000000 ∷ pos 0 ∷ []) ++ axis0 ++ axis1 ++ axis2) axes 3 0 (rising ++ rising ++ rising ++ rising)
     (stars (none ∷ 0 ∷ 1 ∷ 2 ∷ []))
+    -- P: the listing's directions and ranking, the stars 11 and 22 exchanged: 22, 11, 33
+    ∷ search (three (minus 600000000) (pos 0) (pos 800000000) ++ three (pos 600000000) (pos 0) (pos 800000000) ++ three (pos 0) (pos 600000000) (pos 800000000))
+    exchanged 3 0 (rising ++ rising ++ (2 ∷ 0 ∷ 1 ∷ [])) (stars (1 ∷ 0 ∷ 2 ∷ []))
+    -- Q: mirror images, but the products are 8 x 10^11 and -8 x 10^11: they fit
+    ∷ search (axis0 ++ three (pos 600000000) (pos 800000000) (pos 0) ++ three (pos 0) (pos 1000000000) (pos 1000)) smallTurn 3 0 (rising ++ rising ++ rising)
+    (stars (0 ∷ 1 ∷ 2 ∷ []))
+    -- R: 10^12 and -10^12 do not
+    ∷ search (axis0 ++ axis1 ++ three (pos 600000000) (pos 800000000) (pos 1000)) leastTurn 3 0 (rising ++ rising ++ rising) (unfound 13)
+    -- S: 10^12 - 1, which is 999,999 x (1,000,000 x 1 - 1 x -1), and -10^12 do
+    ∷ search (three (pos 999999000) (pos 0) (pos 0) ++ three (pos 0) (pos 1000000000) (pos 1000) ++ three (pos 1000000000) (minus 1000) (pos 1000)) leastTurn′ 3 10000000000000
+    (rising ++ rising ++ rising) (stars (0 ∷ 1 ∷ 2 ∷ []))
     ∷ []
