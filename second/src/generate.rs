@@ -143,6 +143,12 @@ impl View {
         View { stars, directions, truth }
     }
 
+    /// The same view in a mirror: every pair agrees as before, every three turns the other way.
+    pub fn mirrored(mut self) -> View {
+        self.directions.iter_mut().for_each(|direction| *direction = sky::mirror(*direction));
+        self
+    }
+
     /// The least tolerance for which all true pairs agree.
     pub fn least_tolerance(&self) -> u64 {
         let wide = |v: [i32; 3]| v.map(i128::from);
@@ -180,6 +186,16 @@ impl View {
         }
         ranking
     }
+}
+
+/// The catalogue of the same stars seen in a mirror.
+pub fn mirrored_catalogue(catalogue: &Buffer<u8>) -> Buffer<u8> {
+    let mut bytes = catalogue.values();
+    for record in bytes.chunks_exact_mut(16) {
+        let x = i32::from_be_bytes([record[4], record[5], record[6], record[7]]);
+        record[4..8].copy_from_slice(&x.wrapping_neg().to_be_bytes());
+    }
+    Buffer::of(&bytes)
 }
 
 // The chain.
@@ -447,7 +463,10 @@ fn any_search(random: &Random) -> Call {
     }
     let known = 3 + random.below(stars.len().min(8) - 2);
     let unknown = random.below(8 - known + 1).min(2);
-    let view = View::of(random, stars, known, unknown);
+    let mut view = View::of(random, stars, known, unknown);
+    if random.chance(20) {
+        view = view.mirrored();
+    }
     let needed = 3 + random.below(known - 2) as u64;
     let mut call = view.search(random, needed);
     if random.chance(20) {
@@ -507,6 +526,8 @@ fn any_chain(random: &Random) -> Call {
             call.focal = random.pick(&[4_194_304, 1_000_000]);
             call.tolerance = MOST_TOLERANCE;
         }
+        // The sky in a mirror.
+        2 => call.catalogue = mirrored_catalogue(&call.catalogue),
         _ => {}
     }
     call

@@ -60,6 +60,11 @@ pub fn cross(a: &[i128; 3], b: &[i128; 3]) -> [i128; 3] {
     [a[1] * b[2] - a[2] * b[1], a[2] * b[0] - a[0] * b[2], a[0] * b[1] - a[1] * b[0]]
 }
 
+/// The triple product a · (b x c).
+pub fn triple(a: &[i128; 3], b: &[i128; 3], c: &[i128; 3]) -> i128 {
+    dot(a, &cross(b, c))
+}
+
 /// A wide result as the 64-bit number the interface gives; it must fit.
 pub(crate) fn narrow(n: i128) -> i64 {
     i64::try_from(n).expect("the rules keep every result within 64 bits")

@@ -658,7 +658,10 @@ fn bench_searches(random: &Random) -> Vec<Call> {
 
 /// A view and a search over it, with rows of one of the kinds.
 fn viewed_search(random: &Random, stars: Vec<[i32; 3]>, known: usize, unknown: usize, rows: usize) -> Call {
-    let view = View::of(random, stars, known, unknown);
+    view_search(random, View::of(random, stars, known, unknown), known, rows)
+}
+
+fn view_search(random: &Random, view: View, known: usize, rows: usize) -> Call {
     let needed = random.between(3, known.clamp(3, 8) as i64) as u64;
     let mut call = view.search(random, needed);
     let (directions, records) = (view.directions.len(), view.stars.len());
@@ -819,6 +822,71 @@ fn searches(random: &Random, calls: &mut Vec<Call>) {
     let none = search_call(random, &[], &[[1_000_000_000, 0, 0]], 3, 0, &[]);
     vary(calls, &none, &[0, 1, 3], |call, len| call.ranking = Buffer::repeat(len, &[0]));
     vary(calls, &none, &[2, 9], |call, needed| call.needed = needed);
+    mirrored_searches(random, calls);
+}
+
+/// The thousandths' triple products of these directions are exactly 10^12 and 10^12 - 1; the digits beyond the
+/// thousands are cut off.
+const LIMIT: [[i32; 3]; 3] =
+    [[1_000_000_000, 0, 0], [0, 1_000_000_000, 0], [600_000_000, 800_000_000, 1_000]];
+const BELOW_LIMIT: [[i32; 3]; 3] =
+    [[999_999_999, 0, 0], [0, 999_999_999, 10_999], [600_000_999, 799_999_999, 9_999]];
+
+/// Searches that turn on mirror images.
+fn mirrored_searches(random: &Random, calls: &mut Vec<Call>) {
+    // The bench listing's search, with two stars exchanged.
+    let seen = [[-600_000_000, 0, 800_000_000], [600_000_000, 0, 800_000_000], [0, 600_000_000, 800_000_000]];
+    let exchanged = [seen[1], seen[0], seen[2]];
+    calls.push(search_call(random, &seen, &exchanged, 3, 0, &rising_ranking(3, 3)));
+    // The axes with each first row: the odd turns are passed over.
+    let axes = [[1_000_000_000, 0, 0], [0, 1_000_000_000, 0], [0, 0, 1_000_000_000]];
+    for first in [[0, 1, 2], [0, 2, 1], [1, 0, 2], [1, 2, 0], [2, 0, 1], [2, 1, 0]] {
+        let ranking = [first, [0, 1, 2], [0, 1, 2]].concat();
+        calls.push(search_call(random, &axes, &axes, 3, 0, &ranking));
+        calls.push(search_call(random, &axes.map(sky::mirror), &axes, 3, 0, &ranking));
+    }
+    // Products at the limit and beside it, on both sides, with either sign.
+    let upside_down = |[x, y, z]: [i32; 3]| [x, y, -z];
+    for seen in [LIMIT, BELOW_LIMIT, LIMIT.map(upside_down), BELOW_LIMIT.map(upside_down)] {
+        for z in [-2_000, -1_999, -1_001, -1_000, -999, 0, 999, 1_000, 1_999, 2_000] {
+            let stars = [LIMIT[0], LIMIT[1], [600_000_000, 800_000_000, z]];
+            let tolerance = 10_000_000_000_000;
+            calls.push(search_call(random, &seen, &stars, 3, tolerance, &rising_ranking(3, 3)));
+            // The same three in another order of the list.
+            let turned = [seen[2], seen[0], seen[1]];
+            calls.push(search_call(random, &turned, &stars, 3, tolerance, &rising_ranking(3, 3)));
+        }
+    }
+    for rows in 0..6 {
+        for known in 3..=8 {
+            let unknown = random.below(9 - known).min(2);
+            let stars = random_stars(random, known + random.below(8));
+            calls.push(mirrored_search(random, stars, known, unknown, rows));
+            let stars = simple_stars(random, known + random.below(4));
+            calls.push(mirrored_search(random, stars, known, 0, rows));
+        }
+    }
+    // A patch so small that every pair agrees and the products of its threes lie about the limit: some threes
+    // have a say and some have none.
+    for k in 0..90 {
+        let middle = sky::anywhere(random);
+        let closeness = random.pick(&[100, 300, 600, 1_000, 2_000]);
+        let stars: Vec<[i32; 3]> =
+            (0..4 + random.below(6)).map(|_| sky::near(random, middle, closeness)).collect();
+        let known = random.between(3, stars.len().min(8) as i64) as usize;
+        let rows = random.pick(&[1, 2]);
+        let mut call = match k % 3 {
+            0 => viewed_search(random, stars, known, 0, rows),
+            _ => mirrored_search(random, stars, known, 0, rows),
+        };
+        call.tolerance = MOST_TOLERANCE;
+        calls.push(call);
+    }
+}
+
+/// A view in a mirror and a search over it.
+fn mirrored_search(random: &Random, stars: Vec<[i32; 3]>, known: usize, unknown: usize, rows: usize) -> Call {
+    view_search(random, View::of(random, stars, known, unknown).mirrored(), known, rows)
 }
 
 /// Rankings of every wrong length and with a fault at every place.
@@ -1023,6 +1091,17 @@ fn chains(random: &Random, calls: &mut Vec<Call>) {
     damaged(random, Entry::Chain, 14, 120, sound, calls);
     let crowded = || crowded_scene(random);
     damaged(random, Entry::Chain, 2, 20, crowded, calls);
+    // The sky in a mirror, and the document's with two stars exchanged.
+    for visible in 3..=8 {
+        for records in [visible, 20] {
+            let mut call = scene(random, 80, 60, visible, records);
+            call.catalogue = mirrored_catalogue(&call.catalogue);
+            calls.push(call);
+        }
+    }
+    let mut exchanged = document;
+    exchanged.catalogue = mirrored_catalogue(&exchanged.catalogue);
+    calls.push(exchanged);
 }
 
 // Reasons.

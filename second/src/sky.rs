@@ -33,6 +33,11 @@ pub fn near(random: &Random, star: [i32; 3], closeness: i64) -> [i32; 3] {
     unit(star.map(|component| i128::from(i64::from(component) + random.between(-reach, reach))))
 }
 
+/// The star seen in a mirror.
+pub fn mirror([x, y, z]: [i32; 3]) -> [i32; 3] {
+    [-x, y, z]
+}
+
 /// The stars of the bench set's kind: few angles, so that many pairs agree exactly.
 pub fn simple(random: &Random) -> [i32; 3] {
     let mut star = random.pick(&[[1_000_000_000, 0, 0], [600_000_000, 800_000_000, 0]]);

@@ -129,6 +129,16 @@ fn m_first_row_backwards() {
 }
 
 #[test]
+fn odd_turns_of_the_axes_do_not_fit() {
+    // 1, 0, 2 would be the mirror image; 1, 2, 0 turns the axes.
+    let found = search(&[X_AXIS, Y_AXIS, Z_AXIS], &[1, 0, 2, 0, 1, 2, 0, 1, 2]);
+    assert_eq!(found, Ok(vec![Some(1), Some(2), Some(0)]));
+    // Seen in a mirror, the even turns are the ones that do not fit.
+    let found = search(&[X_AXIS.map(|component| -component), Y_AXIS, Z_AXIS], &[0, 1, 2, 0, 1, 2, 0, 1, 2]);
+    assert_eq!(found, Ok(vec![Some(0), Some(2), Some(1)]));
+}
+
+#[test]
 fn n_too_few_directions() {
     assert_eq!(search(&[X_AXIS, Y_AXIS], &[0, 1, 2, 0, 1, 2]), Err(Refusal::new(12)));
 }

@@ -217,6 +217,15 @@ fn rows_are_sorted_by_votes() {
     }
 }
 
+/// The triple product of three vectors whose components are divided by 1,000, as a determinant.
+fn product(vectors: [[i32; 3]; 3]) -> i128 {
+    let [a, b, c] = vectors.map(|vector| vector.map(|component| i128::from(component) / 1_000));
+    a[0] * b[1] * c[2] + a[1] * b[2] * c[0] + a[2] * b[0] * c[1]
+        - a[2] * b[1] * c[0]
+        - a[1] * b[0] * c[2]
+        - a[0] * b[2] * c[1]
+}
+
 /// The definition of the search on tiny cases: all assignments, those that fit, the first of them.
 fn first_by_definition(
     directions: &[[i32; 3]],
@@ -231,6 +240,11 @@ fn first_by_definition(
         let known = dot(&wide(stars[a]), &wide(stars[b]));
         (seen - known).abs() <= tolerance
     };
+    let mirrored = |three: [(usize, usize); 3]| {
+        let seen = product(three.map(|(i, _)| directions[i]));
+        let known = product(three.map(|(_, a)| stars[a]));
+        seen.min(known) <= -1_000_000_000_000 && seen.max(known) >= 1_000_000_000_000
+    };
     let fits = |assignment: &Assignment| {
         let assigned: Vec<(usize, usize)> =
             assignment.iter().enumerate().filter_map(|(i, star)| Some((i, (*star)?))).collect();
@@ -238,7 +252,10 @@ fn first_by_definition(
             .iter()
             .enumerate()
             .all(|(k, &(i, a))| assigned[..k].iter().all(|&(j, b)| a != b && agree(i, j, a, b)));
-        all_pairs && assigned.len() >= needed
+        let count = assigned.len();
+        let some_mirrored = (0..count)
+            .any(|k| (0..k).any(|j| (0..j).any(|i| mirrored([assigned[i], assigned[j], assigned[k]]))));
+        all_pairs && !some_mirrored && count >= needed
     };
     let place = |i: usize, star: Option<usize>| match star {
         None => usize::MAX,
@@ -295,17 +312,34 @@ fn every_assignment(directions: usize, stars: usize) -> Vec<Assignment> {
     all
 }
 
+/// Stars for a small search: anywhere, with few angles, or in a patch so small that every pair agrees and the
+/// triple products lie about the limit where they begin to tell.
+fn stars_to_search(random: &Random, count: usize) -> Vec<[i32; 3]> {
+    match random.below(3) {
+        0 => random_stars(random, count),
+        1 => simple_stars(random, count),
+        _ => {
+            let middle = sky::anywhere(random);
+            (0..count).map(|_| sky::near(random, middle, 500)).collect()
+        }
+    }
+}
+
 #[test]
 fn search_gives_the_first_assignment_that_fits() {
     let random = Random::new(5);
     let (mut found, mut none) = (0, 0);
-    for round in 0..600 {
-        let count = 3 + random.below(2);
-        let stars = if round % 3 == 0 { random_stars(&random, count) } else { simple_stars(&random, count) };
-        let known = 2 + random.below(3);
-        let view = View::of(&random, stars, known.min(count), random.below(2));
+    for _ in 0..1_500 {
+        let count = 3 + random.below(3);
+        let stars = stars_to_search(&random, count);
+        let known = random.pick(&[2, 3, 4, 4]).min(count);
+        let unknown = if count == 5 { 4 - known } else { random.below(2) };
+        let mut view = View::of(&random, stars, known, unknown);
         if view.directions.len() < 3 {
             continue;
+        }
+        if random.chance(50) {
+            view = view.mirrored();
         }
         let needed = 3 + random.below(view.directions.len() - 2);
         let tolerance = i128::from(random.pick(&[view.least_tolerance(), 0, 10_000_000_000_000_000]));
@@ -324,5 +358,26 @@ fn search_gives_the_first_assignment_that_fits() {
         }
         assert_eq!(answer.map_err(|refusal| refusal.number), expected.ok_or(13));
     }
-    assert!(found > 100 && none > 50, "{found} found, {none} without an answer");
+    assert!(found > 200 && none > 200, "{found} found, {none} without an answer");
+}
+
+#[test]
+fn products_at_the_limit_tell_mirror_images() {
+    let unit = 1_000_000_000;
+    let at_limit = |z: i32| [[unit, 0, 0], [0, unit, 0], [600_000_000, 800_000_000, z]];
+    let below = [[999_999_999, 0, 0], [0, 999_999_999, 10_999], [600_000_999, 799_999_999, 9_999]];
+    assert_eq!(product(at_limit(1_000)), 1_000_000_000_000);
+    assert_eq!(product(at_limit(-1_999)), -1_000_000_000_000);
+    assert_eq!(product(at_limit(-999)), 0);
+    assert_eq!(product(below), 999_999_999_999);
+    let fits = |seen: [[i32; 3]; 3], known: [[i32; 3]; 3]| {
+        let bytes: Vec<u8> = known.iter().zip(1..).flat_map(|(star, k)| record(k, *star)).collect();
+        search::search(&flat(&seen), &bytes, 3, 10_000_000_000_000, &rising_ranking(3, 3)).is_ok()
+    };
+    assert!(!fits(at_limit(1_000), at_limit(-1_000)));
+    assert!(!fits(at_limit(-1_999), at_limit(1_999)));
+    assert!(fits(at_limit(999), at_limit(-1_000)));
+    assert!(fits(at_limit(1_000), at_limit(-999)));
+    assert!(fits(below, at_limit(-1_000)));
+    assert!(fits(at_limit(1_000), at_limit(1_000)));
 }

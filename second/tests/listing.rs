@@ -67,6 +67,44 @@ fn whole_listing() {
 }
 
 #[test]
+fn exchanged_stars_are_named_by_their_directions() {
+    let mut files = Files::of_document();
+    files.catalogue = [record(11, RIGHT), record(22, LEFT), record(33, BELOW)].concat();
+    let expected = "measured 3 edge 0 flat 0\n\
+                    0 8192 15360 2400 22\n\
+                    1 32768 15360 2400 11\n\
+                    2 20480 27648 2400 33\n\
+                    1000000000 0 0\n\
+                    0 1000000000 0\n\
+                    0 0 1000000000\n";
+    assert_eq!(files.listing(), expected);
+}
+
+#[test]
+fn mirrored_sky_does_not_fit() {
+    let mut files = Files::of_document();
+    let mirrored = [[100_000_000, 0], [-300_000_000, 400_000_000], [500_000_000, 100_000_000]];
+    let upright = |[x, y]: [i64; 2]| {
+        let z = (1_000_000_000_000_000_000 - x * x - y * y).isqrt();
+        [x as i32, y as i32, z as i32]
+    };
+    // Three pixels whose directions are these stars' with the x axis turned round, near enough.
+    files.settings = settings(160, 120, 50, 3, [20_480, 15_360, 16_384], 10_000_000_000_000_000);
+    files.frame.fill(0);
+    for [x, y, z] in mirrored.map(upright).map(|star| star.map(i64::from)) {
+        let (column, row) = (80 - (64 * x + z / 2) / z, 60 + (64 * y + z / 2) / z);
+        files.set_sample((160 * row + column) as usize, 100);
+    }
+    let stars = mirrored.map(upright);
+    files.catalogue = [record(1, stars[0]), record(2, stars[1]), record(3, stars[2])].concat();
+    assert!(files.listing().ends_with("refused 13 0\n"), "{}", files.listing());
+    // The sky itself is found.
+    let turned = stars.map(|[x, y, z]| [-x, y, z]);
+    files.catalogue = [record(1, turned[0]), record(2, turned[1]), record(3, turned[2])].concat();
+    assert!(!files.listing().contains("refused"), "{}", files.listing());
+}
+
+#[test]
 fn unassigned_star_shows_a_dash() {
     let mut files = Files::of_document();
     files.set_sample(160 * 20 + 20, 90);
