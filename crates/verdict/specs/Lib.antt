@@ -1,3 +1,4 @@
 -- The definitions that the contracts of `verdict` cite, and their laws.
 pub mod Verdict
 pub mod Laws
+pub mod Bright
