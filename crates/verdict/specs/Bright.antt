@@ -2,7 +2,7 @@
 -- so each of them is smaller. The border's 24 samples then come to less than 24 times its own, and its own weight is above 0. Assumes nothing.
 use mathlib.Core.Bool.{Bool, true, false}
 use mathlib.Core.Path.{_≡_, refl}
-use mathlib.Core.Logic.{_⊎_, inl, inr, ⊎-elim}
+use mathlib.Core.Logic.{inl}
 use mathlib.Core.List.{List}
 use Prim.Native.Nat.{ℕ, zero, suc, _+_, _-_, _*_, _≤_, _<_}
 use native.Mathlib.Nat.{not-suc-le-zero, suc-mul}
@@ -10,11 +10,12 @@ use native.Mathlib.Omega.{arith}
 use lib.Dec.{ltb}
 use borrow.Author.Tests.{ltb-true, ltb-false}
 use Rattle.window.specs.Window.{at, beaten}
-use Rattle.window.specs.Laws.{Earlier, BeatenBy, says-beaten}
+use Rattle.window.specs.Laws.{InWindow}
+use Rattle.window.specs.Unbeaten.{none-larger, earlier-smaller}
 use Rattle.centroid.specs.Sums.{sum-below}
 use Rattle.centroid.specs.Border.{border, borderSum, sampled, table-sum, row-below, column-below}
 use Rattle.centroid.specs.Centroid.{weight, brightness}
-use Rattle.verdict.specs.Laws.{Inside}
+use Rattle.verdict.specs.Inside.{Inside}
 
 -- ---- sums of numbers that are at most p
 
@@ -42,35 +43,20 @@ sum-one (suc n) k g l = go (ltb k n) refl (sum-one n k g)
 -- ---- the window of a pixel that is not beaten
 
 module _ (samples : List ℕ) (width height row column : ℕ) (unbeaten : beaten samples width height row column ≡ false) (room : Inside width height row column) where
-  -- no pixel of the window that is earlier is as large, and none is larger
-  spared : (r c : ℕ) → r < height → c < width → (row ≤ r + 3) × (r ≤ row + 3) → (column ≤ c + 3) × (c ≤ column + 3)
-      → (Earlier row column r c × (at samples width row column ≤ at samples width r c)) ⊎ (at samples width row column < at samples width r c) → ⊥
-  spared r c p q s t w =
-      let b = says-beaten samples width height row column (record { r = r; c = c; in-row = p; in-column = q; rows = s; columns = t; wins = w }) in
-      let z : _≡_ {A = ℕ} 0 1 = cc in
-      omega arith
-
-  -- the window's places, from its top left
-  none-larger : (i j : ℕ) → i < 7 → j < 7 → at samples width (row - 3 + i) (column - 3 + j) ≤ at samples width row column
-  none-larger i j p q = go (ltb (at samples width row column) (at samples width (row - 3 + i) (column - 3 + j))) refl
-    where
-      go : (b : Bool) → ltb (at samples width row column) (at samples width (row - 3 + i) (column - 3 + j)) ≡ b → at samples width (row - 3 + i) (column - 3 + j) ≤ at samples width row column
-      go true e = absurd (spared (row - 3 + i) (column - 3 + j) (omega arith) (omega arith) (omega arith) (omega arith) (inr (ltb-true _ _ e)))
-      go false e = ltb-false _ _ e
+  -- the place i, j from the window's top left
+  placed : (i j : ℕ) → i < 7 → j < 7 → InWindow width height row column (row - 3 + i) (column - 3 + j)
+  placed i j p q = record { in-row = omega arith; in-column = omega arith; rows = (omega arith, omega arith); columns = (omega arith, omega arith) }
 
   top-smaller : (j : ℕ) → j < 7 → at samples width (row - 3 + 0) (column - 3 + j) < at samples width row column
-  top-smaller j q = go (ltb (at samples width (row - 3 + 0) (column - 3 + j)) (at samples width row column)) refl
-    where
-      go : (b : Bool) → ltb (at samples width (row - 3 + 0) (column - 3 + j)) (at samples width row column) ≡ b → at samples width (row - 3 + 0) (column - 3 + j) < at samples width row column
-      go true e = ltb-true _ _ e
-      go false e = absurd (spared (row - 3 + 0) (column - 3 + j) (omega arith) (omega arith) (omega arith) (omega arith) (inl (inl (omega arith), ltb-false _ _ e)))
+  top-smaller j q =
+      earlier-smaller samples width height row column unbeaten (row - 3 + 0) (column - 3 + j) (placed 0 j (omega arith) q) (inl (omega arith))
 
   border-less : borderSum samples width row column < 24 * at samples width row column
   unfolding border
   border-less =
       rw (← table-sum samples width row column)
       (sum-less 23 (at samples width row column) (sampled samples width row column) (top-smaller 0 (omega arith))
-      (λ k l. none-larger _ _ (row-below k) (column-below k)))
+      (λ k l. none-larger samples width height row column unbeaten _ _ (placed _ _ (row-below k) (column-below k))))
 
   -- THE LAW: brightness is above 0
   pub bright : 0 < brightness samples width row column

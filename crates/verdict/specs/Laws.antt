@@ -1,46 +1,32 @@
 -- What a verdict says of its pixel. Assumes nothing.
-use mathlib.Core.Bool.{Bool, true, false, cond, not, _&&_, _||_}
+use mathlib.Core.Bool.{Bool, true, false, cond, not, _&&_}
 use mathlib.Core.Path.{_≡_, refl, ap}
 use mathlib.Core.List.{List}
-use Prim.Native.Nat.{ℕ, _+_, _-_, _≤_, _<_}
+use Prim.Native.Nat.{ℕ, _≤_, _<_}
 use native.Mathlib.Omega.{arith}
-use lib.Dec.{ltb, eqb}
-use borrow.Author.Tests.{ltb-false, eqb-false}
+use borrow.Author.Tests.{ltb-false}
 use Rattle.window.specs.Window.{at, beaten}
 use Rattle.centroid.specs.Centroid.{brightness, centroidOf}
 use Rattle.centroid.specs.Range.{x-close, y-close}
 use Rattle.centroid.specs.declared.Centroid.{Centroid}
-use Rattle.verdict.specs.declared.Kind.the-variants.{Dark, Beaten, Edge, Flat, Measured}
+use Rattle.verdict.specs.declared.Kind.the-variants.{Dark, Beaten, Edge, Measured}
 use Rattle.verdict.specs.Verdict.{dark, edge, peak, peakKind, kindOf}
-
--- ---- no edge
-
-neither : (a b : Bool) → a || b ≡ false → (a ≡ false) × (b ≡ false)
-neither true b e = let z : _≡_ {A = Bool} true false = e in (cc, cc)
-neither false b e = (refl, e)
-
--- 3 rows and columns on each side
-pub record Inside (width height row column : ℕ) : Type 0 where
-  pub left : 3 ≤ column
-  pub right : column + 3 < width
-  pub above : 3 ≤ row
-  pub below : row + 3 < height
-
-pub inside : (width height row column : ℕ) → edge width height row column ≡ false → Inside width height row column
-unfolding edge
-inside width height row column e =
-    let a = neither (ltb column 3) _ e in
-    let b = neither (ltb (width - 1 - column) 3) _ (a .1) in
-    let c = neither (ltb row 3) (ltb (height - 1 - row) 3) (b .1) in
-    let p = ltb-false column 3 (a .0) in
-    let q = ltb-false (width - 1 - column) 3 (b .0) in
-    let r = ltb-false row 3 (c .0) in
-    let s = ltb-false (height - 1 - row) 3 (c .1) in
-    record { left = omega arith; right = omega arith; above = omega arith; below = omega arith }
+use Rattle.verdict.specs.Inside.{Inside, inside}
+use Rattle.verdict.specs.Bright as light
 
 -- ---- a peak, or not
 
 module _ (samples : List ℕ) (width height threshold row column : ℕ) where
+  -- no pixel beats a peak
+  pub peak-unbeaten : peak samples width height threshold row column ≡ true → beaten samples width height row column ≡ false
+  unfolding peak
+  peak-unbeaten = go (dark samples width threshold row column) (beaten samples width height row column)
+    where
+      go : (a b : Bool) → not a && not b ≡ true → b ≡ false
+      go a false e = refl
+      go false true e = let z : _≡_ {A = Bool} false true = e in cc
+      go true true e = let z : _≡_ {A = Bool} false true = e in cc
+
   pub peak-is : peak samples width height threshold row column ≡ true → kindOf samples width height threshold row column ≡ peakKind samples width height row column
   unfolding peak kindOf
   peak-is = go (dark samples width threshold row column) (beaten samples width height row column)
@@ -63,25 +49,22 @@ pub record MeasuredAs (samples : List ℕ) (width height threshold row column : 
 module _ (samples : List ℕ) (width height threshold row column : ℕ) (c : Centroid) where
   pub measured-as : kindOf samples width height threshold row column ≡ Measured c → MeasuredAs samples width height threshold row column c
   unfolding kindOf peakKind
-  measured-as =
-      go (dark samples width threshold row column) refl (beaten samples width height row column) refl (edge width height row column) refl
-      (eqb (brightness samples width row column) 0) refl
+  measured-as = go (dark samples width threshold row column) refl (beaten samples width height row column) refl (edge width height row column) refl
     where
       go : (a : Bool) → dark samples width threshold row column ≡ a → (b : Bool) → beaten samples width height row column ≡ b
-          → (d : Bool) → edge width height row column ≡ d → (e : Bool) → eqb (brightness samples width row column) 0 ≡ e
-          → cond a Dark (cond b Beaten (cond d Edge (cond e Flat (Measured (centroidOf samples width row column))))) ≡ Measured c
+          → (d : Bool) → edge width height row column ≡ d
+          → cond a Dark (cond b Beaten (cond d Edge (Measured (centroidOf samples width row column)))) ≡ Measured c
           → MeasuredAs samples width height threshold row column c
-      go true p b q d r e s m = let z : _≡_ {A = ℕ} 0 1 = cc in absurd (omega arith)
-      go false p true q d r e s m = let z : _≡_ {A = ℕ} 0 1 = cc in absurd (omega arith)
-      go false p false q true r e s m = let z : _≡_ {A = ℕ} 0 1 = cc in absurd (omega arith)
-      go false p false q false r true s m = let z : _≡_ {A = ℕ} 0 1 = cc in absurd (omega arith)
-      go false p false q false r false s m =
-          let n = eqb-false (brightness samples width row column) 0 s in
+      go true p b q d r m = let z : _≡_ {A = ℕ} 0 1 = cc in absurd (omega arith)
+      go false p true q d r m = let z : _≡_ {A = ℕ} 0 1 = cc in absurd (omega arith)
+      go false p false q true r m = let z : _≡_ {A = ℕ} 0 1 = cc in absurd (omega arith)
+      go false p false q false r m =
+          let i = inside width height row column r in
           record {
             bright = ltb-false (at samples width row column) threshold p;
             unbeaten = q;
-            room = inside width height row column r;
-            some = omega arith;
+            room = i;
+            some = light.bright samples width height row column q i;
             is = cc;
           }
 

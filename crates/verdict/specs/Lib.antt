@@ -1,4 +1,5 @@
 -- The definitions that the contracts of `verdict` cite, and their laws.
 pub mod Verdict
-pub mod Laws
+pub mod Inside
 pub mod Bright
+pub mod Laws

@@ -2,11 +2,11 @@
 use mathlib.Core.Bool.{Bool, cond, not, _&&_, _||_}
 use mathlib.Core.List.{List}
 use Prim.Native.Nat.{ℕ, _-_}
-use lib.Dec.{ltb, eqb}
+use lib.Dec.{ltb}
 use Rattle.window.specs.Window.{at, beaten}
-use Rattle.centroid.specs.Centroid.{brightness, centroidOf}
+use Rattle.centroid.specs.Centroid.{centroidOf}
 use Rattle.verdict.specs.declared.Kind.{Kind}
-use Rattle.verdict.specs.declared.Kind.the-variants.{Dark, Beaten, Edge, Flat, Measured}
+use Rattle.verdict.specs.declared.Kind.the-variants.{Dark, Beaten, Edge, Measured}
 use Rattle.verdict.specs.declared.Verdict.{Verdict}
 
 -- the sample does not reach the threshold
@@ -22,14 +22,13 @@ edge width height row column =
 unfoldable pub peak : List ℕ → ℕ → ℕ → ℕ → ℕ → ℕ → Bool
 peak samples width height threshold row column = not (dark samples width threshold row column) && not (beaten samples width height row column)
 
--- what a pixel is that is neither: at the edge; flat, without brightness; or measured
+-- what a pixel is that is neither: at the edge, or measured
 unfoldable pub peakKind : List ℕ → ℕ → ℕ → ℕ → ℕ → Kind
 peakKind samples width height row column =
     cond (edge width height row column) Edge
-    (cond (eqb (brightness samples width row column) 0) Flat
-    (Measured (centroidOf samples width row column)))
+    (Measured (centroidOf samples width row column))
 
--- the tests in document 01's order
+-- the tests in document 01's order, as T-04 leaves them
 unfoldable pub kindOf : List ℕ → ℕ → ℕ → ℕ → ℕ → ℕ → Kind
 kindOf samples width height threshold row column =
     cond (dark samples width threshold row column) Dark
@@ -41,10 +40,9 @@ abbrev pub verdictOf : List ℕ → ℕ → ℕ → ℕ → ℕ → ℕ → Verd
 verdictOf samples width height threshold row column =
     record { row = row; column = column; kind = kindOf samples width height threshold row column }
 
--- the kinds by number, in document 01's order
+-- the kinds by number, in the order of the tests
 abbrev pub kindNumber : Kind → ℕ
 kindNumber Dark = 0
 kindNumber Beaten = 1
 kindNumber Edge = 2
-kindNumber Flat = 3
-kindNumber (Measured c) = 4
+kindNumber (Measured c) = 3

@@ -1,7 +1,9 @@
-// The verdict on one pixel: the first that applies of dark, beaten, edge, flat and measured.
+// The verdict on one pixel: the first that applies of dark, beaten, edge and measured.
 ghost use mathlib.Core.Path.{_≡_};
+ghost use mathlib.Core.Bool.{false};
 ghost use Prim.Native.Nat.{_*_, _<_, _≤_};
 ghost use lib.ListN.{length};
+ghost use Rattle.window.specs.Window.{beaten};
 ghost use Rattle.verdict.specs.Verdict.{dark, edge, peak, peakKind, kindOf, verdictOf, kindNumber};
 use centroid::Centroid;
 
@@ -9,7 +11,6 @@ pub enum Kind {
     Dark,
     Beaten,
     Edge,
-    Flat,
     Measured(Centroid),
 }
 
@@ -27,8 +28,7 @@ pub fn kind_number(kind: Kind) -> u32
         Kind::Dark => 0,
         Kind::Beaten => 1,
         Kind::Edge => 2,
-        Kind::Flat => 3,
-        Kind::Measured(_) => 4,
+        Kind::Measured(_) => 3,
     }
 }
 
@@ -82,19 +82,16 @@ pub fn is_peak(
     !window::is_beaten(samples, width, height, row, column)
 }
 
-// The kind of a pixel that is neither dark nor beaten.
+// The kind of a pixel that is neither dark nor beaten. Where it is no edge its brightness is above 0 (`bright` of specs/Bright), so the position's
+// quotients exist.
 pub fn peak_kind(samples: &[u16], width: usize, height: usize, row: usize, column: usize) -> Kind
-    requires { ⌜ (length (now samples) ≡ height * width) × (row < height) × (column < width) × (height ≤ 1024) × (width ≤ 1024) ⌝ }
+    requires { ⌜ (length (now samples) ≡ height * width) × (row < height) × (column < width) × (height ≤ 1024) × (width ≤ 1024) × (beaten (now samples) width height row column ≡ false) ⌝ }
     ensures { λ r. ⌜ r ≡ peakKind (now (samples .entry)) width height row column ⌝ }
 {
     if is_edge(width, height, row, column) {
         return Kind::Edge;
     }
     let moments = centroid::moments_at(samples, width, height, row, column);
-    let brightness = moments.brightness;
-    if brightness == 0 {
-        return Kind::Flat;
-    }
     Kind::Measured(centroid::from_moments(row, column, moments))
 }
 

@@ -20,7 +20,9 @@ unfolding kindOf
 returns-2 c = rw (sym (c .before .before .before .is-dark .ensures) ∙ c .before .before .if1 .left, sym (c .before .is-beaten .ensures) ∙ c .if2 .taken)
 
 peak-kind-requires : tie.Need-peak-kind-requires
-peak-kind-requires c κs = search needs
+peak-kind-requires c κs =
+    let u = sym (c .before .is-beaten .ensures) ∙ c .if2 .left in
+    search needs
 
 returns-3 : tie.Need-returns-3
 unfolding kindOf

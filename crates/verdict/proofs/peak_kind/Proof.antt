@@ -1,12 +1,12 @@
--- `verdict::peak_kind` meets its contract: past the edge test there is room for the whole window, and what the sums give is the signed position.
--- Assumes nothing.
+-- `verdict::peak_kind` meets its contract: past the edge test there is room for the whole window, the brightness is above 0, and what the sums give
+-- is the signed position. Assumes nothing.
 use borrow.Author.Needs.{needs}
 use mathlib.Core.Path.{sym, _∙_}
 use native.Mathlib.Omega.{arith}
-use borrow.Author.Tests.{eq-eqb, ne-eqb}
 use Rattle.centroid.specs.Signed.{from-moments}
 use Rattle.verdict.specs.Verdict.{peakKind}
-use Rattle.verdict.specs.Laws.{inside}
+use Rattle.verdict.specs.Inside.{inside}
+use Rattle.verdict.specs.Bright.{bright}
 use Rattle.verdict.proofs.peak_kind.Statement.{statement}
 use Rattle.verdict.proofs.peak_kind.Tie as tie
 
@@ -22,29 +22,31 @@ moments-at-requires c κs =
     let i = inside _ _ _ _ (sym (c .before .is-edge .ensures) ∙ c .if1 .left) in
     search needs
 
+from-moments-requires : tie.Need-from-moments-requires
+from-moments-requires c κs =
+    let m = c .moments-at in
+    let e = c .before in
+    let s = e .before .before .before in
+    let a = s .args in
+    let i = inside _ _ _ _ (sym (e .before .is-edge .ensures) ∙ e .if1 .left) in
+    let b = bright (a .samples .now) (a .width) (a .height) (a .row) (a .column) (s .pre .5) i in
+    let l = m .ensures .bright in (
+      record { some = omega arith; small = m .ensures .small; across-small = m .ensures .across-small; down-small = m .ensures .down-small },
+      omega arith,
+      omega arith,
+      omega arith,
+      omega arith,
+    )
+
 returns-2 : tie.Need-returns-2
 unfolding peakKind
 returns-2 c =
+    let m = c .before .moments-at in
     let e = c .before .before in
-    rw (sym (e .before .is-edge .ensures) ∙ e .if1 .left, eq-eqb _ _ (sym (c .before .moments-at .ensures .bright) ∙ c .if2 .taken))
-
-from-moments-requires : tie.Need-from-moments-requires
-from-moments-requires c κs =
-    let e = c .before .before in
-    let i = inside _ _ _ _ (sym (e .before .is-edge .ensures) ∙ e .if1 .left) in
-    search needs
-
-returns-3 : tie.Need-returns-3
-unfolding peakKind
-returns-3 c =
-    let b = c .before in
-    let m = b .before .moments-at in
-    let e = b .before .before in
     let a = e .before .before .before .args in
     let i = inside _ _ _ _ (sym (e .before .is-edge .ensures) ∙ e .if1 .left) in
     rw (
       sym (e .before .is-edge .ensures) ∙ e .if1 .left,
-      ne-eqb _ _ (λ z. b .if2 .left (m .ensures .bright ∙ z)),
       c .from-moments .ensures,
       from-moments (a .samples .now) (a .width) (a .row) (a .column) (omega (arith, i .above)) (omega (arith, i .left)) (m .result) (m .ensures),
     )
@@ -56,6 +58,5 @@ peak-kind-spec =
     is-edge-requires
     returns
     moments-at-requires
-    returns-2
     from-moments-requires
-    returns-3)
+    returns-2)
