@@ -22,7 +22,7 @@ use Rattle.centroid.specs.declared.Centroid.{Centroid}
 use Rattle.verdict.specs.Verdict.{verdictOf}
 use Rattle.verdict.specs.Laws.{measured-range}
 use Rattle.verdict.specs.declared.Kind.{Kind}
-use Rattle.verdict.specs.declared.Kind.the-variants.{Dark, Beaten, Edge, Flat, Measured}
+use Rattle.verdict.specs.declared.Kind.the-variants.{Dark, Beaten, Edge, Measured}
 use Rattle.frame.specs.Input.{frameRows, pixelRows}
 use Rattle.frame.specs.Stars.{bright, nought, isMeasured, numberOf, kindAt, starAt, measuredPixels, measuredOf, reportOf, nothing}
 use Rattle.frame.specs.StarsLaws.{star-is}
@@ -123,7 +123,6 @@ measured-of : (v : Kind) → isMeasured v ≡ true → (c : Centroid) × (v ≡ 
 measured-of Dark e = contradiction (cc)
 measured-of Beaten e = contradiction (cc)
 measured-of Edge e = contradiction (cc)
-measured-of Flat e = contradiction (cc)
 measured-of (Measured c) e = (c, refl)
 
 one-true : (b : Bool) → 1 ≤ one b → b ≡ true
