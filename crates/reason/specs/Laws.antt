@@ -4,7 +4,7 @@ use mathlib.Core.Path.{_≡_, refl, sym, ap, _∙_}
 use mathlib.Core.List.{List}
 use Prim.Native.Nat.{ℕ, _+_, _-_, _≤_, _<_}
 use native.Mathlib.Omega.{arith}
-use lib.Dec.{ltb, eqb}
+use lib.Dec.{ltb}
 use borrow.Author.Tests.{ltb-true, ltb-false}
 use Rattle.refusal.specs.declared.Outcome.{Outcome}
 use Rattle.refusal.specs.declared.Outcome.the-variants as outcomes
@@ -13,7 +13,7 @@ use Rattle.window.specs.declared.Beating.{Beating}
 use Rattle.window.specs.declared.Beating.the-variants.{At, Nothing}
 use Rattle.window.specs.Window.{at, beaten, firstBeating}
 use Rattle.window.specs.FirstLaws.{FirstAt, first-says, found-beaten, nothing-unbeaten}
-use Rattle.centroid.specs.Centroid.{brightness, centroidOf}
+use Rattle.centroid.specs.Centroid.{centroidOf}
 use Rattle.centroid.specs.declared.Centroid.{Centroid}
 use Rattle.verdict.specs.declared.Kind.the-variants as kinds
 use Rattle.verdict.specs.Verdict.{dark, edge, peakKind, kindOf, verdictOf}
@@ -25,7 +25,7 @@ use Rattle.frame.specs.declared.Judgement.the-variants as judgements
 use Rattle.reason.specs.declared.Side.{Side}
 use Rattle.reason.specs.declared.Side.the-variants.{Left, Right, Top, Bottom}
 use Rattle.reason.specs.declared.Reason.{Reason}
-use Rattle.reason.specs.declared.Reason.the-variants.{Dark, Beaten, Edge, Flat, Measured}
+use Rattle.reason.specs.declared.Reason.the-variants.{Dark, Beaten, Edge, Measured}
 use Rattle.reason.specs.declared.Explanation.{Explanation}
 use Rattle.reason.specs.declared.Explanation.the-variants.{Refused, Given}
 use Rattle.reason.specs.Side.{sideNumber, firstSide}
@@ -39,13 +39,12 @@ no-path z = absurd (omega arith)
 module _ (samples : List ℕ) (width height threshold row column : ℕ) where
   pub peak-kind-is : kindIn (peakReason samples width height row column) ≡ peakKind samples width height row column
   unfolding peakReason peakKind
-  peak-kind-is = go (edge width height row column) (eqb (brightness samples width row column) 0)
+  peak-kind-is = go (edge width height row column)
     where
-      go : (a b : Bool) → kindIn (cond a (Edge (firstSide width height row column)) (cond b Flat (Measured (centroidOf samples width row column))))
-          ≡ cond a kinds.Edge (cond b kinds.Flat (kinds.Measured (centroidOf samples width row column)))
-      go true b = refl
-      go false true = refl
-      go false false = refl
+      go : (a : Bool) → kindIn (cond a (Edge (firstSide width height row column)) (Measured (centroidOf samples width row column)))
+          ≡ cond a kinds.Edge (kinds.Measured (centroidOf samples width row column))
+      go true = refl
+      go false = refl
 
   pub kind-is : kindIn (reasonOf samples width height threshold row column) ≡ kindOf samples width height threshold row column
   unfolding reasonOf kindOf
@@ -143,23 +142,20 @@ module _ (samples : List ℕ) (width height threshold row column : ℕ) where
       → (dark samples width threshold row column ≡ true → P (Dark (at samples width row column) threshold))
       → ((r c : ℕ) → firstBeating samples width height row column ≡ At r c → P (Beaten r c))
       → (edge width height row column ≡ true → P (Edge (firstSide width height row column)))
-      → P Flat
       → P (Measured (centroidOf samples width row column))
       → P (reasonOf samples width height threshold row column)
   unfolding reasonOf peakReason
-  by-case P d b e f m =
+  by-case P d b e m =
       go (dark samples width threshold row column) refl (firstBeating samples width height row column) refl (edge width height row column) refl
-      (eqb (brightness samples width row column) 0)
     where
       go : (a : Bool) → dark samples width threshold row column ≡ a → (k : Beating) → firstBeating samples width height row column ≡ k
-          → (x : Bool) → edge width height row column ≡ x → (y : Bool)
+          → (x : Bool) → edge width height row column ≡ x
           → P (cond a (Dark (at samples width row column) threshold)
-          (unlessBeaten (cond x (Edge (firstSide width height row column)) (cond y Flat (Measured (centroidOf samples width row column)))) k))
-      go true p k q x r y = d p
-      go false p (At j k) q x r y = b j k q
-      go false p Nothing q true r y = e r
-      go false p Nothing q false r true = f
-      go false p Nothing q false r false = m
+          (unlessBeaten (cond x (Edge (firstSide width height row column)) (Measured (centroidOf samples width row column))) k))
+      go true p k q x r = d p
+      go false p (At j k) q x r = b j k q
+      go false p Nothing q true r = e r
+      go false p Nothing q false r = m
 
   -- the sample and the threshold: the one does not reach the other
   pub dark-says : (s t : ℕ) → reasonOf samples width height threshold row column ≡ Dark s t → (s ≡ at samples width row column) × (t ≡ threshold) × (s < t)
@@ -172,7 +168,6 @@ module _ (samples : List ℕ) (width height threshold row column : ℕ) where
       (λ r c f e. no-path (cc))
       (λ f e. no-path (cc))
       (λ e. no-path (cc))
-      (λ e. no-path (cc))
 
   -- the pixel that beats it first
   pub beaten-says : (r c : ℕ) → reasonOf samples width height threshold row column ≡ Beaten r c → FirstAt samples width height row column r c
@@ -184,7 +179,6 @@ module _ (samples : List ℕ) (width height threshold row column : ℕ) where
       first-says samples width height row column r c (f ∙ p))
       (λ f e. no-path (cc))
       (λ e. no-path (cc))
-      (λ e. no-path (cc))
 
   -- the side that is broken first
   pub edge-says : (side : Side) → reasonOf samples width height threshold row column ≡ Edge side → FirstSide width height row column side
@@ -195,7 +189,6 @@ module _ (samples : List ℕ) (width height threshold row column : ℕ) where
       (λ f e.
       let p : firstSide width height row column ≡ side = cc in
       rw (← p) (side-says width height row column f))
-      (λ e. no-path (cc))
       (λ e. no-path (cc))
 
   -- the centroid of its window

@@ -2,29 +2,27 @@
 use mathlib.Core.Bool.{cond}
 use mathlib.Core.List.{List}
 use Prim.Native.Nat.{ℕ}
-use lib.Dec.{eqb}
 use Rattle.refusal.specs.Table.{lowest, answered}
 use Rattle.window.specs.declared.Beating.{Beating}
 use Rattle.window.specs.declared.Beating.the-variants.{At, Nothing}
 use Rattle.window.specs.Window.{at, firstBeating}
-use Rattle.centroid.specs.Centroid.{brightness, centroidOf}
+use Rattle.centroid.specs.Centroid.{centroidOf}
 use Rattle.verdict.specs.declared.Kind.{Kind}
 use Rattle.verdict.specs.declared.Kind.the-variants as kinds
 use Rattle.verdict.specs.Verdict.{dark, edge, kindNumber}
 use Rattle.frame.specs.Input.{pixelRows}
 use Rattle.reason.specs.declared.Reason.{Reason}
-use Rattle.reason.specs.declared.Reason.the-variants.{Dark, Beaten, Edge, Flat, Measured}
+use Rattle.reason.specs.declared.Reason.the-variants.{Dark, Beaten, Edge, Measured}
 use Rattle.reason.specs.declared.Explanation.{Explanation}
 use Rattle.reason.specs.declared.Explanation.the-variants.{Refused, Given}
 use Rattle.reason.specs.declared.Values.{Values}
 use Rattle.reason.specs.Side.{sideNumber, firstSide}
 
--- of a pixel that is neither dark nor beaten: the first broken side; flat; or measured, with its centroid
+-- of a pixel that is neither dark nor beaten: the first broken side, or measured, with its centroid
 unfoldable pub peakReason : List ℕ → ℕ → ℕ → ℕ → ℕ → Reason
 peakReason samples width height row column =
     cond (edge width height row column) (Edge (firstSide width height row column))
-    (cond (eqb (brightness samples width row column) 0) Flat
-    (Measured (centroidOf samples width row column)))
+    (Measured (centroidOf samples width row column))
 
 -- the pixel that beats it first, or another reason where none does
 abbrev pub unlessBeaten : Reason → Beating → Reason
@@ -49,7 +47,6 @@ abbrev pub kindIn : Reason → Kind
 kindIn (Dark sample threshold) = kinds.Dark
 kindIn (Beaten r c) = kinds.Beaten
 kindIn (Edge side) = kinds.Edge
-kindIn Flat = kinds.Flat
 kindIn (Measured c) = kinds.Measured c
 
 abbrev pub reasonNumber : Reason → ℕ
@@ -58,10 +55,9 @@ reasonNumber reason = kindNumber (kindIn reason)
 abbrev pub three : ℕ → ℕ → ℕ → Values
 three a b c = record { first = a; second = b; third = c }
 
--- sample and threshold; row and column; the side; nothing; x, y and brightness
+-- sample and threshold; row and column; the side; x, y and brightness
 abbrev pub valuesIn : Reason → Values
 valuesIn (Dark sample threshold) = three sample threshold 0
 valuesIn (Beaten r c) = three r c 0
 valuesIn (Edge side) = three (sideNumber side) 0 0
-valuesIn Flat = three 0 0 0
 valuesIn (Measured c) = three (c .x) (c .y) (c .brightness)

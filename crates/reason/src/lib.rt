@@ -1,7 +1,9 @@
 // Why a pixel is not a star: the verdict's kind, with what decided it.
 ghost use mathlib.Core.Path.{_≡_};
+ghost use mathlib.Core.Bool.{false};
 ghost use Prim.Native.Nat.{_*_, _<_, _≤_};
 ghost use lib.ListN.{length};
+ghost use Rattle.window.specs.Window.{beaten};
 ghost use Rattle.reason.specs.Side.{firstSide, sideNumber};
 ghost use Rattle.reason.specs.Reason.{peakReason, reasonOf, explanationOf, kindIn, reasonNumber, valuesIn};
 use centroid::Centroid;
@@ -25,7 +27,6 @@ pub enum Reason {
     Beaten(usize, usize),
     // the first side that is too near
     Edge(Side),
-    Flat,
     Measured(Centroid),
 }
 
@@ -61,7 +62,6 @@ pub fn kind_of(reason: Reason) -> Kind
         Reason::Dark(_, _) => Kind::Dark,
         Reason::Beaten(_, _) => Kind::Beaten,
         Reason::Edge(_) => Kind::Edge,
-        Reason::Flat => Kind::Flat,
         Reason::Measured(centroid) => Kind::Measured(centroid),
     }
 }
@@ -92,11 +92,6 @@ pub fn values_of(reason: Reason) -> Values
             second: 0,
             third: 0,
         },
-        Reason::Flat => Values {
-            first: 0,
-            second: 0,
-            third: 0,
-        },
         Reason::Measured(centroid) => Values {
             first: centroid.x,
             second: centroid.y,
@@ -122,14 +117,13 @@ fn first_side(width: usize, height: usize, row: usize, column: usize) -> Side
     Side::Bottom
 }
 
-// The reason for a pixel that is neither dark nor beaten: one that is neither flat nor measured is at the edge.
+// The reason for a pixel that is neither dark nor beaten: one that is not measured is at the edge.
 fn peak_reason(samples: &[u16], width: usize, height: usize, row: usize, column: usize) -> Reason
-    requires { ⌜ (length (now samples) ≡ height * width) × (row < height) × (column < width) × (height ≤ 1024) × (width ≤ 1024) ⌝ }
+    requires { ⌜ (length (now samples) ≡ height * width) × (row < height) × (column < width) × (height ≤ 1024) × (width ≤ 1024) × (beaten (now samples) width height row column ≡ false) ⌝ }
     ensures { λ r. ⌜ r ≡ peakReason (now (samples .entry)) width height row column ⌝ }
 {
     let kind = verdict::peak_kind(samples, width, height, row, column);
     match kind {
-        Kind::Flat => Reason::Flat,
         Kind::Measured(centroid) => Reason::Measured(centroid),
         _ => Reason::Edge(first_side(width, height, row, column)),
     }

@@ -6,16 +6,15 @@ use mathlib.Core.Path.{_≡_, refl, sym, ap, _∙_}
 use mathlib.Core.List.{List}
 use Prim.Native.Nat.{ℕ, _<_}
 use native.Mathlib.Omega.{arith}
-use lib.Dec.{eqb}
 use denote.Enum.Declared as declared
 use Rattle.verdict.proofs.Kind as enum
-use Rattle.centroid.specs.Centroid.{brightness, centroidOf}
+use Rattle.centroid.specs.Centroid.{centroidOf}
 use Rattle.centroid.specs.declared.Centroid.{Centroid}
 use Rattle.verdict.specs.declared.Kind.{Kind}
 use Rattle.verdict.specs.declared.Kind.the-variants as kinds
 use Rattle.verdict.specs.Verdict.{edge, peakKind}
 use Rattle.reason.specs.declared.Reason.{Reason}
-use Rattle.reason.specs.declared.Reason.the-variants.{Dark, Beaten, Edge, Flat, Measured}
+use Rattle.reason.specs.declared.Reason.the-variants.{Dark, Beaten, Edge, Measured}
 use Rattle.reason.specs.Side.{firstSide}
 use Rattle.reason.specs.Reason.{kindIn, peakReason}
 use Rattle.reason.specs.Laws.{peak-kind-is, no-path}
@@ -24,43 +23,31 @@ use Rattle.reason.proofs.peak_reason.Tie as tie
 
 -- ---- a reason by its kind
 
-flat-is : (x : Reason) → kindIn x ≡ kinds.Flat → Flat ≡ x
-flat-is (Dark s t) e = no-path (cc)
-flat-is (Beaten r c) e = no-path (cc)
-flat-is (Edge s) e = no-path (cc)
-flat-is Flat e = refl
-flat-is (Measured m) e = no-path (cc)
-
 measured-is : (c : Centroid) (x : Reason) → kindIn x ≡ kinds.Measured c → Measured c ≡ x
 measured-is c (Dark s t) e = no-path (cc)
 measured-is c (Beaten r k) e = no-path (cc)
 measured-is c (Edge s) e = no-path (cc)
-measured-is c Flat e = no-path (cc)
 measured-is c (Measured m) e = let p : c ≡ m = cc in ap Measured p
 
 abbrev tag : Kind → ℕ
 tag k = declared.tagOf enum.the-type k
 
--- a kind that stands before flat and measured
+-- a kind that stands before measured
 below : (t : ℕ) → (t ≡ 0) ⊎ ((t ≡ 1) ⊎ (t ≡ 2)) → t < 3
 below t = ⊎-elim (λ e. omega arith) (⊎-elim (λ e. omega arith) (λ e. omega arith))
 
 edge-is : (samples : List ℕ) (width height row column : ℕ) (k : Kind) → tag k < 3 → k ≡ peakKind samples width height row column
     → Edge (firstSide width height row column) ≡ peakReason samples width height row column
 unfolding peakKind peakReason
-edge-is samples width height row column k h = go (edge width height row column) (eqb (brightness samples width row column) 0)
+edge-is samples width height row column k h = go (edge width height row column)
   where
-    go : (a b : Bool) → k ≡ cond a kinds.Edge (cond b kinds.Flat (kinds.Measured (centroidOf samples width row column)))
-        → Edge (firstSide width height row column) ≡ cond a (Edge (firstSide width height row column)) (cond b Flat (Measured (centroidOf samples width row column)))
-    go true b e = refl
-    go false true e = let t : tag k ≡ 3 = ap tag e in absurd (omega arith)
-    go false false e = let t : tag k ≡ 4 = ap tag e in absurd (omega arith)
+    go : (a : Bool) → k ≡ cond a kinds.Edge (kinds.Measured (centroidOf samples width row column))
+        → Edge (firstSide width height row column) ≡ cond a (Edge (firstSide width height row column)) (Measured (centroidOf samples width row column))
+    go true e = refl
+    go false e = let t : tag k ≡ 3 = ap tag e in absurd (omega arith)
 
 peak-kind-requires : tie.Need-peak-kind-requires
 peak-kind-requires c κs = search needs
-
-enum-told : tie.Need-enum-told
-enum-told c = search needs
 
 enum-known-kind : tie.Need-enum-known-kind
 enum-known-kind c = search needs
@@ -70,31 +57,23 @@ first-side-requires c κs = search needs
 
 returns : tie.Need-returns
 returns c =
-    let p = c .before .before in
-    let a = p .before .before .args in
-    flat-is _ (peak-kind-is (a .samples .now) (a .width) (a .height) 0 (a .row) (a .column) ∙ sym (p .peak-kind .ensures) ∙ c .enum-told .given .1)
-
-returns-2 : tie.Need-returns-2
-returns-2 c =
     let p = c .before .before .before in
     let a = p .before .before .args in
     measured-is _ _ (peak-kind-is (a .samples .now) (a .width) (a .height) 0 (a .row) (a .column) ∙ sym (p .peak-kind .ensures) ∙ c .before .kind .given .1)
 
-returns-3 : tie.Need-returns-3
-returns-3 c =
+returns-2 : tie.Need-returns-2
+returns-2 c =
     let p = c .before .before in
     let a = p .before .before .args in
     ap Edge (c .first-side .ensures)
-    ∙ edge-is (a .samples .now) (a .width) (a .height) (a .row) (a .column) (p .peak-kind .result) (below _ (c .before .match .keys3)) (p .peak-kind .ensures)
+    ∙ edge-is (a .samples .now) (a .width) (a .height) (a .row) (a .column) (p .peak-kind .result) (below _ (c .before .match .keys2)) (p .peak-kind .ensures)
 
 pub peak-reason-spec : {M : Type 1} → statement M
 peak-reason-spec =
     tie.close
     (tie.spec
     peak-kind-requires
-    enum-told
     enum-known-kind
     first-side-requires
     returns
-    returns-2
-    returns-3)
+    returns-2)

@@ -1,6 +1,7 @@
 -- `reason::reason_at` meets its contract: each answer is the case of `reasonOf` that its tests choose. Assumes nothing.
 use mathlib.Core.Path.{sym, _∙_}
 use borrow.Author.Tests.{lt-ltb, le-ltb}
+use Rattle.window.specs.FirstLaws.{nothing-unbeaten}
 use Rattle.reason.specs.Reason.{reasonOf}
 use borrow.Author.Needs.{needs}
 use Rattle.reason.proofs.reason_at.Statement.{statement}
@@ -26,7 +27,10 @@ enum-told : tie.Need-enum-told
 enum-told c = search needs
 
 peak-reason-requires : tie.Need-peak-reason-requires
-peak-reason-requires c κs = search needs
+peak-reason-requires c κs =
+    let b = c .before .before in
+    let u = nothing-unbeaten _ _ _ _ _ (sym (b .first-beating .ensures) ∙ c .enum-told .given .1) in
+    search needs
 
 returns-2 : tie.Need-returns-2
 unfolding reasonOf

@@ -23,9 +23,6 @@ side-number-requires c κs = search needs
 cast-t14 : tie.Need-cast-t14
 cast-t14 c = search needs
 
-enum-told : tie.Need-enum-told
-enum-told c = search needs
-
 enum-known-reason-4 : tie.Need-enum-known-reason-4
 enum-known-reason-4 c = search needs
 
@@ -39,10 +36,7 @@ returns-3 : tie.Need-returns-3
 returns-3 c = (λ i. three (c .side-number .ensures i) 0 0) ∙ ap valuesIn (sym (c .before .before .reason3 .given .1))
 
 returns-4 : tie.Need-returns-4
-returns-4 c = ap valuesIn (sym (c .enum-told .given .1))
-
-returns-5 : tie.Need-returns-5
-returns-5 c = ap valuesIn (sym (c .before .reason4 .given .1))
+returns-4 c = ap valuesIn (sym (c .before .reason4 .given .1))
 
 pub values-of-spec : {M : Type 1} → statement M
 values-of-spec =
@@ -54,10 +48,8 @@ values-of-spec =
     enum-known-reason-3
     side-number-requires
     cast-t14
-    enum-told
     enum-known-reason-4
     returns
     returns-2
     returns-3
-    returns-4
-    returns-5)
+    returns-4)
