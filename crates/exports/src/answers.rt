@@ -52,7 +52,6 @@ fn centroid_in(kind: Kind) -> Centroid
         Kind::Dark => nought(),
         Kind::Beaten => nought(),
         Kind::Edge => nought(),
-        Kind::Flat => nought(),
         Kind::Measured(centroid) => centroid,
     }
 }
@@ -98,7 +97,7 @@ pub(crate) fn of_explanation(explanation: Explanation) -> [i64; 64]
     }
 }
 
-// A frame's list: how many stars it has, the three counts, and the stars.
+// A frame's list: how many stars it has, the two counts, and the stars.
 fn of_report(report: Report) -> [i64; 64]
     ensures { λ r. ⌜ r ≡ acceptedNumbers (reportNumbers report) ⌝ }
 {
@@ -107,7 +106,6 @@ fn of_report(report: Report) -> [i64; 64]
     flat[2] = signed(report.count as u64);
     flat[3] = signed(report.measured as u64);
     flat[4] = signed(report.edge as u64);
-    flat[5] = signed(report.flat as u64);
     put_stars(flat, stars)
 }
 
@@ -173,6 +171,6 @@ pub(crate) fn of_chain(tracked: Tracked, stars: usize) -> [i64; 64]
     let words = tracked.stars;
     let matrix = tracked.matrix;
     let count = report.count;
-    let named = put_names(of_report(report), 30, words, count, stars);
-    of_outcome(outcome, put_matrix(named, 38, matrix))
+    let named = put_names(of_report(report), 29, words, count, stars);
+    of_outcome(outcome, put_matrix(named, 37, matrix))
 }

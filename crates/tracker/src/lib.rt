@@ -52,7 +52,6 @@ fn refused(refusal: Refusal) -> Tracked
         count: 0,
         measured: 0,
         edge: 0,
-        flat: 0,
     };
     let matrix = Matrix {
         row0: zeros,
