@@ -10,7 +10,6 @@ fn kind(kind: Kind) {
         Kind::Dark => say::text(b" dark"),
         Kind::Beaten => say::text(b" beaten"),
         Kind::Edge => say::text(b" edge"),
-        Kind::Flat => say::text(b" flat"),
         Kind::Measured(star) => {
             say::text(b" measured");
             say::number(star.x);
@@ -37,7 +36,7 @@ fn pixel(letter: &[u8], samples: &[u16], threshold: usize, row: usize, column: u
     say::end();
 }
 
-// How many pixels of the frame are measured, edge and flat.
+// How many pixels of the frame are measured and edge.
 fn counts(letter: &[u8], samples: &[u16], threshold: usize) {
     say::text(letter);
     let listing = frame::list(samples, 7, 7, threshold);
@@ -49,7 +48,6 @@ fn counts(letter: &[u8], samples: &[u16], threshold: usize) {
             say::text(b" counts");
             say::number(report.measured as u64);
             say::number(report.edge as u64);
-            say::number(report.flat as u64);
         }
     }
     say::end();
