@@ -21,7 +21,7 @@ use Rattle.centroid.specs.Border.{borderSum}
 use Rattle.centroid.specs.Centroid.{brightness, shiftX, shiftY, centroidOf}
 use Rattle.verdict.specs.Verdict.{edge, peakKind, kindOf, kindNumber}
 use Rattle.verdict.specs.declared.Kind.{Kind}
-use Rattle.verdict.specs.declared.Kind.the-variants.{Dark, Beaten, Edge, Flat, Measured}
+use Rattle.verdict.specs.declared.Kind.the-variants.{Dark, Beaten, Edge, Measured}
 use Rattle.frame.specs.Input.{firstOver}
 use Rattle.frame.specs.Calls.{judgementOf}
 use Rattle.frame.specs.CallsLaws.{judge-accepted}
@@ -70,7 +70,6 @@ beaten-kind : (kind : Kind) → eqb (kindNumber kind) 1 ≡ true → kind ≡ Be
 beaten-kind Dark e = never e
 beaten-kind Beaten e = refl
 beaten-kind Edge e = never e
-beaten-kind Flat e = never e
 beaten-kind (Measured c) e = never e
 
 rest-beaten : (r c : ℕ) → r < side → c < side → ((r ≡ 0) × (c ≡ 0) → ⊥) → judgementOf even side side 4095 r c ≡ judgedAs r c Beaten
