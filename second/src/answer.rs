@@ -32,7 +32,6 @@ pub enum Kind {
     Dark,
     Beaten,
     Edge,
-    Flat,
     Measured(Centroid),
 }
 
@@ -42,8 +41,7 @@ impl Kind {
             Kind::Dark => 0,
             Kind::Beaten => 1,
             Kind::Edge => 2,
-            Kind::Flat => 3,
-            Kind::Measured(_) => 4,
+            Kind::Measured(_) => 3,
         }
     }
 }
@@ -78,7 +76,6 @@ pub enum Reason {
     },
     /// The first side that is too near.
     Edge(Side),
-    Flat,
     Measured(Centroid),
 }
 
@@ -88,7 +85,6 @@ pub struct List {
     pub stars: Vec<Centroid>,
     pub measured: usize,
     pub edge: usize,
-    pub flat: usize,
 }
 
 pub type Vector = [i64; 3];
@@ -144,8 +140,7 @@ impl Answer for Reason {
             Reason::Dark { sample, threshold } => (0, [sample, threshold, 0]),
             Reason::Beaten { row, column } => (1, [row as i64, column as i64, 0]),
             Reason::Edge(side) => (2, [side as i64, 0, 0]),
-            Reason::Flat => (3, [0; 3]),
-            Reason::Measured(star) => (4, [star.x, star.y, star.brightness]),
+            Reason::Measured(star) => (3, [star.x, star.y, star.brightness]),
         };
         out[2] = kind;
         out[3..6].copy_from_slice(&values);
@@ -157,9 +152,8 @@ impl Answer for List {
         out[2] = self.stars.len() as i64;
         out[3] = self.measured as i64;
         out[4] = self.edge as i64;
-        out[5] = self.flat as i64;
         for (k, star) in self.stars.iter().enumerate() {
-            out[6 + 3 * k..9 + 3 * k].copy_from_slice(&[star.x, star.y, star.brightness]);
+            out[5 + 3 * k..8 + 3 * k].copy_from_slice(&[star.x, star.y, star.brightness]);
         }
     }
 }
@@ -205,8 +199,8 @@ impl Answer for Solution {
     fn fill(&self, out: &mut Numbers) {
         self.list.fill(out);
         for (i, star) in self.assignment.iter().enumerate() {
-            out[30 + i] = star_number(*star);
+            out[29 + i] = star_number(*star);
         }
-        out[38..47].copy_from_slice(self.matrix.as_flattened());
+        out[37..46].copy_from_slice(self.matrix.as_flattened());
     }
 }

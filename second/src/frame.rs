@@ -69,13 +69,12 @@ impl<'a> Frame<'a> {
 
     /// The measured pixels by falling brightness, equal ones in row order, and the counts of the frame.
     pub fn list(&self) -> List {
-        let mut list = List { stars: Vec::new(), measured: 0, edge: 0, flat: 0 };
+        let mut list = List { stars: Vec::new(), measured: 0, edge: 0 };
         for row in 0..self.height {
             for column in 0..self.width {
                 match self.verdict(row, column).kind {
                     Kind::Dark | Kind::Beaten => {}
                     Kind::Edge => list.edge += 1,
-                    Kind::Flat => list.flat += 1,
                     Kind::Measured(star) => {
                         list.measured += 1;
                         list.stars.push(star);
@@ -97,7 +96,7 @@ impl<'a> Frame<'a> {
         } else if self.broken_side(row, column).is_some() {
             Kind::Edge
         } else {
-            self.measure(row, column).map_or(Kind::Flat, Kind::Measured)
+            Kind::Measured(self.measure(row, column))
         };
         Verdict { row: row as usize, column: column as usize, kind }
     }
@@ -113,7 +112,7 @@ impl<'a> Frame<'a> {
         if let Some(side) = self.broken_side(row, column) {
             return Reason::Edge(side);
         }
-        self.measure(row, column).map_or(Reason::Flat, Reason::Measured)
+        Reason::Measured(self.measure(row, column))
     }
 
     fn contains(&self, row: i128, column: i128) -> bool {
@@ -154,8 +153,9 @@ impl<'a> Frame<'a> {
         between.into_iter().find(|&(_, pixels)| pixels < 3).map(|(side, _)| side)
     }
 
-    /// Position and brightness of a pixel that is not at the edge; none where the brightness is 0.
-    fn measure(&self, row: i128, column: i128) -> Option<Centroid> {
+    /// Position and brightness of a pixel that is neither beaten nor at the edge. Its brightness is above 0: no
+    /// border pixel is larger than it, and those of the top border, which are earlier, are smaller.
+    fn measure(&self, row: i128, column: i128) -> Centroid {
         let border = self.border_sum(row, column);
         let (mut brightness, mut moment_x, mut moment_y) = (0, 0, 0);
         for down in -2..=2 {
@@ -166,14 +166,11 @@ impl<'a> Frame<'a> {
                 moment_y += weight * down;
             }
         }
-        if brightness == 0 {
-            return None;
-        }
-        Some(Centroid {
+        Centroid {
             x: narrow(256 * column + 256 * moment_x / brightness),
             y: narrow(256 * row + 256 * moment_y / brightness),
             brightness: narrow(brightness),
-        })
+        }
     }
 
     /// The sum of the 24 pixels around the 7 x 7 window.

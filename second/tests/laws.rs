@@ -88,7 +88,7 @@ fn list_is_made_of_the_verdicts() {
         let (samples, set) = (call.samples.values(), call.settings());
         let list = frame::list(&samples, set.width, set.height, set.threshold).unwrap();
         let mut measured = Vec::new();
-        let (mut edge, mut flat) = (0, 0);
+        let mut edge = 0;
         for row in 0..set.height {
             for column in 0..set.width {
                 match frame::verdict(&samples, set.width, set.height, set.threshold, row, column)
@@ -97,12 +97,11 @@ fn list_is_made_of_the_verdicts() {
                 {
                     Kind::Measured(star) => measured.push(star),
                     Kind::Edge => edge += 1,
-                    Kind::Flat => flat += 1,
                     Kind::Dark | Kind::Beaten => {}
                 }
             }
         }
-        assert_eq!((list.measured, list.edge, list.flat), (measured.len(), edge, flat));
+        assert_eq!((list.measured, list.edge), (measured.len(), edge));
         assert_eq!(list.stars.len(), measured.len().min(8));
         // A star's place: those brighter, and those equal that come before it in row order.
         for (k, star) in measured.iter().enumerate() {
@@ -135,7 +134,7 @@ fn beating(samples: &[u16], width: usize, height: usize, row: usize, column: usi
 #[test]
 fn reasons_are_true() {
     let random = Random::new(7);
-    let mut given = [0; 5];
+    let mut given = [0; 4];
     for _ in 0..300 {
         let call = small_frame(&random, Entry::Reason);
         let (samples, set) = (call.samples.values(), call.settings());
@@ -162,7 +161,6 @@ fn reasons_are_true() {
                     assert!(between[side] < 3 && between[..side].iter().all(|&pixels| pixels >= 3));
                     assert!(beating(&samples, width, height, row, column).is_empty());
                 }
-                Reason::Flat => assert!(between.iter().all(|&pixels| pixels >= 3)),
                 Reason::Measured(star) => {
                     assert_eq!(kind, Kind::Measured(star));
                     assert!(between.iter().all(|&pixels| pixels >= 3));
@@ -171,7 +169,49 @@ fn reasons_are_true() {
             }
         }
     }
-    assert!(given[0] > 100 && given[1] > 100 && given[2] > 100 && given[4] > 100, "{given:?}");
+    assert!(given.iter().all(|&count| count > 100), "{given:?}");
+}
+
+/// The sum of the border around the window of a pixel, which lies wholly in the frame.
+fn border(samples: &[u16], width: usize, row: usize, column: usize) -> i64 {
+    let mut sum = 0;
+    for r in row - 3..=row + 3 {
+        for c in column - 3..=column + 3 {
+            if r.abs_diff(row) == 3 || c.abs_diff(column) == 3 {
+                sum += i64::from(samples[r * width + c]);
+            }
+        }
+    }
+    sum
+}
+
+#[test]
+fn whatever_is_measured_is_bright() {
+    let random = Random::new(8);
+    let mut least = i64::MAX;
+    for round in 0..4_000 {
+        // A peak whose border is as bright as it may be: equal to the peak after it, one less before it.
+        let peak = random.pick(&[1, 2, 50, 4_095]);
+        let dim = random.pick(&[0, 0, 5, 40]);
+        let mut samples: Vec<u16> = (0..49).map(|k| if k < 24 { peak - 1 } else { peak }).collect();
+        for sample in &mut samples {
+            if random.chance(dim) {
+                *sample = random.below(usize::from(peak) + 1) as u16;
+            }
+        }
+        samples[24] = peak;
+        if round == 0 {
+            samples.fill(peak);
+            samples[..24].fill(peak - 1);
+        }
+        if let Kind::Measured(star) = frame::verdict(&samples, 7, 7, i128::from(peak), 3, 3).unwrap().kind {
+            // The peak alone weighs more than nothing.
+            assert!(star.brightness >= 24 * i64::from(peak) - border(&samples, 7, 3, 3));
+            assert!(24 * i64::from(peak) > border(&samples, 7, 3, 3));
+            least = least.min(star.brightness);
+        }
+    }
+    assert!(least > 0 && least < 200, "{least}");
 }
 
 /// The votes, word for word from the rule.

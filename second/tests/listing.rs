@@ -56,7 +56,7 @@ fn settings(
 
 #[test]
 fn whole_listing() {
-    let expected = "measured 3 edge 0 flat 0\n\
+    let expected = "measured 3 edge 0\n\
                     0 8192 15360 2400 11\n\
                     1 32768 15360 2400 22\n\
                     2 20480 27648 2400 33\n\
@@ -70,7 +70,7 @@ fn whole_listing() {
 fn exchanged_stars_are_named_by_their_directions() {
     let mut files = Files::of_document();
     files.catalogue = [record(11, RIGHT), record(22, LEFT), record(33, BELOW)].concat();
-    let expected = "measured 3 edge 0 flat 0\n\
+    let expected = "measured 3 edge 0\n\
                     0 8192 15360 2400 22\n\
                     1 32768 15360 2400 11\n\
                     2 20480 27648 2400 33\n\
@@ -109,7 +109,7 @@ fn unassigned_star_shows_a_dash() {
     let mut files = Files::of_document();
     files.set_sample(160 * 20 + 20, 90);
     let shown = files.listing();
-    assert!(shown.starts_with("measured 4 edge 0 flat 0\n"));
+    assert!(shown.starts_with("measured 4 edge 0\n"));
     assert!(shown.contains("\n3 5120 5120 2160 -\n1000000000 0 0\n"));
 }
 
@@ -117,21 +117,21 @@ fn unassigned_star_shows_a_dash() {
 fn refusal_12_prints_the_first_lines() {
     let mut files = Files::of_document();
     files.settings[7] = 4;
-    let expected = "measured 3 edge 0 flat 0\n\
+    let expected = "measured 3 edge 0\n\
                     0 8192 15360 2400 -\n\
                     1 32768 15360 2400 -\n\
                     2 20480 27648 2400 -\n\
                     refused 12 0\n";
     assert_eq!(files.listing(), expected);
     files.frame.fill(0);
-    assert_eq!(files.listing(), "measured 0 edge 0 flat 0\nrefused 12 0\n");
+    assert_eq!(files.listing(), "measured 0 edge 0\nrefused 12 0\n");
 }
 
 #[test]
 fn refusal_13_prints_the_first_lines() {
     let mut files = Files::of_document();
     files.catalogue = [record(11, LEFT), record(22, RIGHT)].concat();
-    let expected = "measured 3 edge 0 flat 0\n\
+    let expected = "measured 3 edge 0\n\
                     0 8192 15360 2400 -\n\
                     1 32768 15360 2400 -\n\
                     2 20480 27648 2400 -\n\
@@ -145,7 +145,7 @@ fn refusal_14_shows_the_stars_found() {
     // A narrow view, a wide tolerance, and stars that all stand in one place.
     files.settings = settings(160, 120, 50, 3, [20_480, 15_360, 4_194_304], 10_000_000_000_000_000);
     files.catalogue = [record(11, LEFT), record(22, LEFT), record(33, LEFT)].concat();
-    let expected = "measured 3 edge 0 flat 0\n\
+    let expected = "measured 3 edge 0\n\
                     0 8192 15360 2400 11\n\
                     1 32768 15360 2400 22\n\
                     2 20480 27648 2400 33\n\
@@ -200,5 +200,5 @@ fn the_largest_frame_is_taken() {
         catalogue: record(0, LEFT).to_vec(),
         frame: vec![0; 2 * 32_000],
     };
-    assert_eq!(files.listing(), "measured 0 edge 0 flat 0\nrefused 12 0\n");
+    assert_eq!(files.listing(), "measured 0 edge 0\nrefused 12 0\n");
 }
