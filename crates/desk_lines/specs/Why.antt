@@ -11,7 +11,7 @@ use Rattle.files.specs.Samples.{sampleCount, samplesOf}
 use Rattle.reason.specs.declared.Side.{Side}
 use Rattle.reason.specs.declared.Side.the-variants.{Left, Right, Top, Bottom}
 use Rattle.reason.specs.declared.Reason.{Reason}
-use Rattle.reason.specs.declared.Reason.the-variants.{Dark, Beaten, Edge, Flat, Measured}
+use Rattle.reason.specs.declared.Reason.the-variants.{Dark, Beaten, Edge, Measured}
 use Rattle.reason.specs.declared.Explanation.{Explanation}
 use Rattle.reason.specs.declared.Explanation.the-variants.{Refused, Given}
 use Rattle.reason.specs.Reason.{explanationOf}
@@ -39,7 +39,6 @@ abbrev pub reasonLine : Reason → List ℕ
 reasonLine (Dark sample threshold) = pairLine (ascii "dark ") sample threshold
 reasonLine (Beaten row column) = pairLine (ascii "beaten ") row column
 reasonLine (Edge side) = sideLine side
-reasonLine Flat = ascii "flat\n"
 reasonLine (Measured c) = measuredLine c
 
 abbrev pub explanationLine : Explanation → List ℕ

@@ -52,7 +52,6 @@ fn reason_line(room: &mut [u8], reason: Reason) -> usize
         Reason::Dark(sample, threshold) => pair(room, b"dark ", sample as u64, threshold as u64),
         Reason::Beaten(row, column) => pair(room, b"beaten ", row as u64, column as u64),
         Reason::Edge(side) => side_line(room, side),
-        Reason::Flat => text::word(room, 0, b"flat\n"),
         Reason::Measured(star) => measured(room, star),
     }
 }

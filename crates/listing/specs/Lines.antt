@@ -4,7 +4,6 @@ use mathlib.Core.List.{List, [], _++_}
 use Prim.Native.Nat.{ℕ, zero, suc, min}
 use lib.Dec.{ltb}
 use lib.ListN.{getD}
-use Rattle.refusal.specs.declared.Refusal.{Refusal}
 use Rattle.vectors.specs.declared.Vec3.{Vec3}
 use Rattle.centroid.specs.declared.Centroid.{Centroid}
 use Rattle.frame.specs.declared.Report.{Report}
@@ -16,7 +15,7 @@ use Rattle.text.specs.Ascii.{ascii}
 use Rattle.text.specs.Decimal.{decimal, signedDecimal, labelled}
 
 unfoldable pub countsLine : Report → List ℕ
-countsLine r = labelled "measured " (r .measured) ++ labelled " edge " (r .edge) ++ labelled " flat " (r .flat) ++ ascii "\n"
+countsLine r = labelled "measured " (r .measured) ++ labelled " edge " (r .edge) ++ ascii "\n"
 
 -- the star that a word of an assignment names: its identity, and "-" for a word that is no record's number
 unfoldable pub nameOf : List ℕ → ℕ → List ℕ
@@ -52,6 +51,3 @@ rowLine v = signedDecimal (v .x) ++ ascii " " ++ signedDecimal (v .y) ++ ascii "
 
 unfoldable pub matrixLines : Matrix → List ℕ
 matrixLines m = rowLine (m .row0) ++ rowLine (m .row1) ++ rowLine (m .row2)
-
-unfoldable pub refusalLine : Refusal → List ℕ
-refusalLine r = labelled "refused " (r .number) ++ labelled " " (r .place) ++ ascii "\n"

@@ -4,7 +4,7 @@ use mathlib.Core.Path.{_≡_}
 use mathlib.Core.List.{List, _++_}
 use Prim.Native.Nat.{ℕ}
 use lib.Dec.{ltb, eqb}
-use lib.ListN.{length, drop, getD, replicate}
+use lib.ListN.{length, getD, replicate}
 use Rattle.refusal.specs.declared.Refusal.{Refusal}
 use Rattle.refusal.specs.declared.Outcome.the-variants as outcome
 use Rattle.refusal.specs.Numbers as number
@@ -16,8 +16,9 @@ use Rattle.files.specs.declared.Reading.{Reading}
 use Rattle.files.specs.declared.Reading.the-variants as reading
 use Rattle.files.specs.Settings.{readingOf}
 use Rattle.files.specs.Samples.{sampleCount, samplesOf}
+use Rattle.text.specs.Refused.{refusalLine}
 use Rattle.text.specs.Ascii.{ascii}
-use Rattle.listing.specs.Lines.{nameOf, reportLines, matrixLines, refusalLine}
+use Rattle.listing.specs.Lines.{nameOf, reportLines, matrixLines}
 
 -- ---- the names of an assignment's stars, or "-" for every one where none are shown
 
@@ -64,16 +65,9 @@ listingText settings frame catalogue = textOf frame catalogue (readingOf setting
 
 -- ---- the room
 
--- how many bytes a room for any listing has
+-- how many bytes a room for any listing has; a shorter one gets nothing (`roomWith` of text)
 abbrev pub roomSize : ℕ
 roomSize = 2048
-
--- the text stands at the start and the rest stays; a shorter room than any listing may need gets nothing
-unfoldable pub roomWith : List ℕ → List ℕ → List ℕ
-roomWith room text = cond (ltb (length room) roomSize) room (text ++ drop (length text) room)
-
-unfoldable pub lengthIn : List ℕ → List ℕ → ℕ
-lengthIn room text = cond (ltb (length room) roomSize) 0 (length text)
 
 -- ---- what the lines of a refusal are handed: the call's refusal, and the room that the chain left
 

@@ -7,8 +7,9 @@ use refusal::Refusal;
 use tracker::Settings;
 ghost use mathlib.Core.Path.{_≡_};
 ghost use Prim.Native.Nat.{_≤_};
+ghost use Rattle.text.specs.Room.{roomWith, lengthIn};
 ghost use Rattle.text.specs.Written.{Wrote};
-ghost use Rattle.listing.specs.Listing.{Refuses, Finds, chainOn, samplesIn, acceptedText, refusedText, answerText, textOf, listingText, roomWith, lengthIn};
+ghost use Rattle.listing.specs.Listing.{Refuses, Finds, chainOn, samplesIn, acceptedText, refusedText, answerText, textOf, listingText, roomSize};
 ghost use Rattle.listing.specs.Listing.{found as wordsFound};
 
 // The bytes that a room for any listing has.
@@ -45,17 +46,17 @@ fn refused(
     ensures { λ r. ⌜ r ≤ 972 ⌝ }
 {
     if refusal.number < refusal::FEW {
-        return lines::refused(room, 0, refusal);
+        return text::refused(room, 0, refusal);
     }
     let listing = frame::list(samples, settings.width, settings.height, settings.threshold);
     let report = listing.report;
     if refusal.number == refusal::CLOSE {
         let words = found(refusal, samples, catalogue, settings, ranking, report.count);
         let next = lines::report(room, 0, report, words, true, catalogue);
-        return lines::refused(room, next, refusal);
+        return text::refused(room, next, refusal);
     }
     let next = lines::report(room, 0, report, [0u16; 8], false, catalogue);
-    lines::refused(room, next, refusal)
+    text::refused(room, next, refusal)
 }
 
 // The lines of the chain's answer.
@@ -91,15 +92,15 @@ fn listed(settings: Settings, frame: &[u8], catalogue: &[u8], room: &mut [u8]) -
 // Puts the listing at the start of the room, leaves the rest as it is, and answers how many bytes it has. A room of fewer than 2,048 bytes gets none.
 // No listing has more than 1,120.
 pub fn write(settings: &[u8], frame: &[u8], catalogue: &[u8], room: &mut [u8]) -> usize
-    ensures { λ r. ⌜ r ≡ lengthIn (now (room .entry)) (listingText (now (settings .entry)) (now (frame .entry)) (now (catalogue .entry))) ⌝ }
-    ensures { λ r. ⌜ now (room .exit) ≡ roomWith (now (room .entry)) (listingText (now (settings .entry)) (now (frame .entry)) (now (catalogue .entry))) ⌝ }
+    ensures { λ r. ⌜ r ≡ lengthIn roomSize (now (room .entry)) (listingText (now (settings .entry)) (now (frame .entry)) (now (catalogue .entry))) ⌝ }
+    ensures { λ r. ⌜ now (room .exit) ≡ roomWith roomSize (now (room .entry)) (listingText (now (settings .entry)) (now (frame .entry)) (now (catalogue .entry))) ⌝ }
     ensures { λ r. ⌜ r ≤ 1120 ⌝ }
 {
     if room.len() < ROOM {
         return 0;
     }
     match files::read_settings(settings) {
-        Reading::Refused(r) => lines::refused(room, 0, r),
+        Reading::Refused(r) => text::refused(room, 0, r),
         Reading::Read(s) => listed(s, frame, catalogue, room),
     }
 }

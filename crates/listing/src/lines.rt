@@ -2,12 +2,11 @@
 use attitude::Matrix;
 use centroid::Centroid;
 use frame::Report;
-use refusal::Refusal;
 use vectors::Vec3;
 ghost use mathlib.Core.Path.{_≡_};
 ghost use Prim.Native.Nat.{_+_, _≤_, min};
 ghost use Rattle.text.specs.Written.{Wrote};
-ghost use Rattle.listing.specs.Lines.{countsLine, shown, shownIn, starPlace, starLine, starLines, reportLines, rowLine, matrixLines, refusalLine};
+ghost use Rattle.listing.specs.Lines.{countsLine, shown, shownIn, starPlace, starLine, starLines, reportLines, rowLine, matrixLines};
 
 // How many stars a list has at most.
 const MOST_STARS: usize = 8;
@@ -19,8 +18,7 @@ fn counts(room: &mut [u8], at: usize, report: Report) -> usize
 {
     let measured = text::labelled(room, at, b"measured ", report.measured as u64);
     let edge = text::labelled(room, measured, b" edge ", report.edge as u64);
-    let flat = text::labelled(room, edge, b" flat ", report.flat as u64);
-    text::word(room, flat, b"\n")
+    text::word(room, edge, b"\n")
 }
 
 // The identity of the star that a word names, where names are shown and it names one, else "-".
@@ -140,14 +138,4 @@ pub(crate) fn matrix(room: &mut [u8], at: usize, matrix: Matrix) -> usize
     let first = row(room, at, matrix.row0);
     let second = row(room, first, matrix.row1);
     row(room, second, matrix.row2)
-}
-
-// "refused", the number and the place.
-pub(crate) fn refused(room: &mut [u8], at: usize, refusal: Refusal) -> usize
-    ensures { λ r. ⌜ Wrote (now (room .entry)) at (refusalLine refusal) (now (room .exit)) r ⌝ }
-    ensures { λ r. ⌜ r ≤ at + 50 ⌝ }
-{
-    let number = text::labelled(room, at, b"refused ", refusal.number as u64);
-    let place = text::labelled(room, number, b" ", refusal.place as u64);
-    text::word(room, place, b"\n")
 }

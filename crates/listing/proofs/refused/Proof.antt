@@ -10,9 +10,10 @@ use Rattle.refusal.specs.declared.Refusal.{Refusal}
 use Rattle.frame.specs.declared.Report.{Report}
 use Rattle.frame.specs.declared.Listing.{Listing}
 use Rattle.tracker.specs.Chain.{Call, listed}
+use Rattle.text.specs.Refused.{refusalLine}
 use Rattle.text.specs.Written.{Wrote}
 use Rattle.text.specs.WrittenLaws.{wrote-then}
-use Rattle.listing.specs.Lines.{shownIn, reportLines, refusalLine}
+use Rattle.listing.specs.Lines.{shownIn, reportLines}
 use Rattle.listing.specs.Listing.{named, nobody, found, refusedText, chainOn}
 use Rattle.listing.proofs.refused.Statement.{statement}
 use Rattle.listing.proofs.refused.Tie as tie

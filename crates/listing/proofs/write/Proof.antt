@@ -1,34 +1,28 @@
 -- `listing::write` meets its contract: no listing is longer than the room, so all of it stands there. Assumes nothing.
 use borrow.Author.Needs.{needs}
-use borrow.Author.Tests.{lt-ltb, le-ltb}
-use mathlib.Core.Path.{_≡_, refl, sym, ap, _∙_, subst}
-use mathlib.Core.List.{List, _++_}
-use Prim.Native.Nat.{ℕ, _+_, _≤_, _<_}
+use mathlib.Core.Path.{_≡_, sym, ap, _∙_, subst}
+use mathlib.Core.List.{List}
+use Prim.Native.Nat.{ℕ, _≤_, _<_}
 use native.Mathlib.Omega.{arith}
-use lib.ListN.{length, drop}
+use lib.ListN.{length}
 use Rattle.refusal.specs.declared.Refusal.{Refusal}
 use Rattle.tracker.specs.declared.Settings.{Settings}
 use Rattle.files.specs.declared.Reading.the-variants.{Refused, Read}
 use Rattle.files.specs.Settings.{readingOf}
-use Rattle.text.specs.Written.{written, Wrote}
-use Rattle.text.specs.WrittenLaws.{written-whole}
-use Rattle.listing.specs.Lines.{refusalLine}
-use Rattle.listing.specs.Listing.{chainOn, samplesIn, answerText, textOf, listingText, roomWith, lengthIn}
+use Rattle.text.specs.Refused.{refusalLine}
+use Rattle.text.specs.Written.{Wrote}
+use Rattle.text.specs.Room.{roomWith, lengthIn}
+use Rattle.text.specs.RoomLaws.{room-short, room-whole}
+use Rattle.listing.specs.Listing.{chainOn, samplesIn, answerText, textOf, listingText}
 use Rattle.listing.proofs.write.Statement.{statement}
 use Rattle.listing.proofs.write.Tie as tie
 
 module _ (room text : List ℕ) where
-  short : length room < 2048 → (0 ≡ lengthIn room text) × ((room ≡ roomWith room text) × (0 ≤ 1120))
-  unfolding lengthIn roomWith
-  short h = rw (lt-ltb (length room) 2048 h) (refl, (refl, omega arith))
+  short : length room < 2048 → (0 ≡ lengthIn 2048 room text) × ((room ≡ roomWith 2048 room text) × (0 ≤ 1120))
+  short h = let e = room-short 2048 room text h in (e .0, (e .1, omega arith))
 
-  whole : (after : List ℕ) (r : ℕ) → 2048 ≤ length room → r ≤ 1120 → Wrote room 0 text after r → (r ≡ lengthIn room text) × ((after ≡ roomWith room text) × (r ≤ 1120))
-  unfolding lengthIn roomWith
-  whole after r h k p =
-      let l : r ≡ length text = omega (arith, p .place) in
-      let z : 0 + length text ≡ length text = omega arith in
-      rw (le-ltb (length room) 2048 h)
-      (l, (p .room ∙ written-whole room 0 text (omega arith) ∙ ap (λ (n : ℕ). text ++ drop n room) z, k))
+  whole : (after : List ℕ) (r : ℕ) → 2048 ≤ length room → r ≤ 1120 → Wrote room 0 text after r → (r ≡ lengthIn 2048 room text) × ((after ≡ roomWith 2048 room text) × (r ≤ 1120))
+  whole after r h k p = let e = room-whole 2048 room text after r h (omega arith) p in (e .0, (e .1, k))
 
 module _ (settings frame catalogue : List ℕ) where
   refused-text : (r : Refusal) → readingOf settings ≡ Refused r → refusalLine r ≡ listingText settings frame catalogue

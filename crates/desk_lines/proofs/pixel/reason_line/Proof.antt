@@ -40,15 +40,6 @@ enum-known-reason-3 c = search needs
 side-line-requires : tie.Need-side-line-requires
 side-line-requires c κs = search needs
 
-enum-told : tie.Need-enum-told
-enum-told c = search needs
-
-slice-aggregate-word : tie.Need-slice-aggregate-word
-slice-aggregate-word c = search needs
-
-word-requires : tie.Need-word-requires
-word-requires c κs = search needs
-
 enum-known-reason-4 : tie.Need-enum-known-reason-4
 enum-known-reason-4 c = search needs
 
@@ -88,15 +79,6 @@ same-length-4 c = search needs
 returns-4 : tie.Need-returns-4
 returns-4 c =
     let w = c .before .before in
-    let t : tie.After-enum-told = search needs in
-    (told (t .enum-told .given .1) (w .word .ensures), omega (arith, w .word .ensures .place))
-
-same-length-5 : tie.Need-same-length-5
-same-length-5 c = search needs
-
-returns-5 : tie.Need-returns-5
-returns-5 c =
-    let w = c .before .before in
     let t : tie.After-reason4 = search needs in
     (told (t .reason4 .given .1) (w .measured .ensures .0), omega (arith, w .measured .ensures .1))
 
@@ -113,9 +95,6 @@ reason-line-spec =
     pair-requires-2
     enum-known-reason-3
     side-line-requires
-    enum-told
-    slice-aggregate-word
-    word-requires
     enum-known-reason-4
     measured-requires
     same-length
@@ -125,6 +104,4 @@ reason-line-spec =
     same-length-3
     returns-3
     same-length-4
-    returns-4
-    same-length-5
-    returns-5)
+    returns-4)
