@@ -8,7 +8,7 @@ use native.Mathlib.Omega.{arith}
 use native.Mathlib.Numerals.{add-one}
 use lib.Dec.{leb, eqb}
 use lib.ListN.{length, length-append}
-use Rattle.files.specs.Number.{numberAt}
+use Rattle.words.specs.Number.{numberAt}
 
 -- how many samples a file of this length holds: none where the length is another, or where there are too many
 unfoldable pub sampleCount : ℕ → ℕ → ℕ → ℕ

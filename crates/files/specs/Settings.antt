@@ -10,7 +10,7 @@ use Rattle.refusal.specs.Numbers.{size}
 use Rattle.tracker.specs.declared.Settings.{Settings}
 use Rattle.files.specs.declared.Reading.{Reading}
 use Rattle.files.specs.declared.Reading.the-variants.{Refused, Read}
-use Rattle.files.specs.Number.{numberAt}
+use Rattle.words.specs.Number.{numberAt}
 
 unfoldable pub settingsOf : List ℕ → Settings
 settingsOf bytes =

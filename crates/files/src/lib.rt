@@ -2,10 +2,8 @@
 use refusal::Refusal;
 use tracker::Settings;
 ghost use mathlib.Core.Path.{_≡_};
-ghost use Prim.Native.Nat.{_+_, _^_, _≤_, _<_};
 ghost use lib.ListN.{length, drop};
 ghost use mathlib.Core.List.{_++_};
-ghost use Rattle.files.specs.Number.{numberAt};
 ghost use Rattle.files.specs.Settings.{readingOf};
 ghost use Rattle.files.specs.Samples.{sampleCount, takenInto, samplesOf};
 
@@ -21,28 +19,6 @@ pub enum Reading {
     Read(Settings),
 }
 
-fn wide(x: u8) -> u64
-    ensures { λ r. ⌜ r ≡ x ⌝ }
-    ensures { λ r. ⌜ r < 256 ⌝ }
-{
-    x as u64
-}
-
-// The number that n bytes from a place on make, high byte first.
-fn number(bytes: &[u8], at: usize, n: usize) -> u64
-    requires { ⌜ (n ≤ 8) × (at + n ≤ length (now bytes)) ⌝ }
-    ensures { λ r. ⌜ r ≡ numberAt (now (bytes .entry)) at n ⌝ }
-    ensures { λ r. ⌜ r < 256 ^ n ⌝ }
-{
-    let mut value: u64 = 0;
-    let mut i: usize = 0;
-    while i < n {
-        value = 256 * value + wide(bytes[at + i]);
-        i += 1;
-    }
-    value
-}
-
 // The settings, or refusal 1 for a file that is not 32 bytes long.
 pub fn read_settings(bytes: &[u8]) -> Reading
     ensures { λ r. ⌜ r ≡ readingOf (now (bytes .entry)) ⌝ }
@@ -54,14 +30,14 @@ pub fn read_settings(bytes: &[u8]) -> Reading
         });
     }
     Reading::Read(Settings {
-        width: number(bytes, 0, 2) as usize,
-        height: number(bytes, 2, 2) as usize,
-        threshold: number(bytes, 4, 2) as usize,
-        needed: number(bytes, 6, 2) as usize,
-        cx: number(bytes, 8, 4) as i64,
-        cy: number(bytes, 12, 4) as i64,
-        focal: number(bytes, 16, 4) as i64,
-        tolerance: number(bytes, 24, 8),
+        width: words::u16_at(bytes, 0) as usize,
+        height: words::u16_at(bytes, 2) as usize,
+        threshold: words::u16_at(bytes, 4) as usize,
+        needed: words::u16_at(bytes, 6) as usize,
+        cx: words::u32_at(bytes, 8) as i64,
+        cy: words::u32_at(bytes, 12) as i64,
+        focal: words::u32_at(bytes, 16) as i64,
+        tolerance: words::u64_at(bytes, 24),
     })
 }
 
@@ -97,7 +73,7 @@ pub fn read_samples(bytes: &[u8], width: usize, height: usize, room: &mut [u16])
     }
     let mut i: usize = 0;
     while i < count {
-        room[i] = number(bytes, 2 * i, 2) as u16;
+        room[i] = words::u16_at(bytes, 2 * i);
         i += 1;
     }
     count

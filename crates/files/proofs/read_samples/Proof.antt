@@ -7,7 +7,7 @@ use native.Mathlib.Numerals.{add-one}
 use native.Mathlib.Omega.{arith}
 use lib.ListN.{length, drop, set, getD, length-set}
 use lib.Seq.{drop-cons, set-at, append-snoc}
-use Rattle.files.specs.Number.{numberAt}
+use Rattle.words.specs.Number.{numberAt}
 use Rattle.files.specs.Samples.{sampleCount, takenInto, taken-whole, taken-none, samplesOf, samples-next, samples-length, count-fits}
 use Rattle.files.proofs.read_samples.Statement.{statement}
 use Rattle.files.proofs.read_samples.Tie as tie
@@ -49,14 +49,11 @@ loop-holds c =
     let e = q .sample-count .ensures in
     (omega arith, omega (arith, f .0, e), omega (arith, f .1, e), refl, c .if1 .left, refl)
 
-mul-number : tie.Need-mul-number Inv-loop μ-loop
-mul-number c = omega arith
+mul-u16-at : tie.Need-mul-u16-at Inv-loop μ-loop
+mul-u16-at c = omega arith
 
-number-requires : tie.Need-number-requires Inv-loop μ-loop
-number-requires c κs = omega arith
-
-cast-room : tie.Need-cast-room Inv-loop μ-loop
-cast-room c = omega arith
+u16-at-requires : tie.Need-u16-at-requires Inv-loop μ-loop
+u16-at-requires c κs = omega arith
 
 mul-room : tie.Need-mul-room Inv-loop μ-loop
 mul-room c = omega arith
@@ -74,7 +71,7 @@ loop-again : tie.Need-loop-again Inv-loop μ-loop
 loop-again c =
     let l = c .before .before .loop in
     let v = l .inv in
-    (omega arith, v .1, v .2, simp length-set (v .3), v .4, stored _ (l .room) _ (l .i) _ (omega (arith, v .4)) (v .5) (c .number .ensures .0))
+    (omega arith, v .1, v .2, simp length-set (v .3), v .4, stored _ (l .room) _ (l .i) _ (omega (arith, v .4)) (v .5) (c .u16-at .ensures))
 
 same-length : tie.Need-same-length Inv-loop μ-loop
 same-length c = omega arith
@@ -95,9 +92,8 @@ read-samples-spec =
     sample-count-requires
     returns
     loop-holds
-    mul-number
-    number-requires
-    cast-room
+    mul-u16-at
+    u16-at-requires
     mul-room
     slice-write-room
     add-i

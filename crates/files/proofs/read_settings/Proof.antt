@@ -3,7 +3,7 @@ use borrow.Author.Needs.{needs}
 use borrow.Author.Tests.{eq-eqb, ne-eqb}
 use mathlib.Core.Path.{_≡_, sym, ap, _∙_}
 use mathlib.Core.List.{List}
-use Prim.Native.Nat.{ℕ, _^_, _<_}
+use Prim.Native.Nat.{ℕ, _<_}
 use native.Mathlib.Omega.{arith}
 use lib.IntN.{pos}
 use mir.Syntax.{w64}
@@ -19,38 +19,50 @@ returns : tie.Need-returns
 unfolding readingOf
 returns c = simp (ne-eqb _ _ (c .if1 .taken))
 
-number-requires : tie.Need-number-requires
-number-requires c κs = search needs
+u16-at-requires : tie.Need-u16-at-requires
+u16-at-requires c κs = search needs
 
-number-requires-2 : tie.Need-number-requires-2
-number-requires-2 c κs = search needs
+cast-t2 : tie.Need-cast-t2
+cast-t2 c = search needs
 
-number-requires-3 : tie.Need-number-requires-3
-number-requires-3 c κs = search needs
+u16-at-requires-2 : tie.Need-u16-at-requires-2
+u16-at-requires-2 c κs = search needs
 
-number-requires-4 : tie.Need-number-requires-4
-number-requires-4 c κs = search needs
+cast-t7 : tie.Need-cast-t7
+cast-t7 c = search needs
 
-number-requires-5 : tie.Need-number-requires-5
-number-requires-5 c κs = search needs
+u16-at-requires-3 : tie.Need-u16-at-requires-3
+u16-at-requires-3 c κs = search needs
+
+cast-t9 : tie.Need-cast-t9
+cast-t9 c = search needs
+
+u16-at-requires-4 : tie.Need-u16-at-requires-4
+u16-at-requires-4 c κs = search needs
+
+cast-t11 : tie.Need-cast-t11
+cast-t11 c = search needs
+
+u32-at-requires : tie.Need-u32-at-requires
+u32-at-requires c κs = search needs
 
 cast-t13 : tie.Need-cast-t13
 cast-t13 c = search needs
 
-number-requires-6 : tie.Need-number-requires-6
-number-requires-6 c κs = search needs
+u32-at-requires-2 : tie.Need-u32-at-requires-2
+u32-at-requires-2 c κs = search needs
 
 cast-t15 : tie.Need-cast-t15
 cast-t15 c = search needs
 
-number-requires-7 : tie.Need-number-requires-7
-number-requires-7 c κs = search needs
+u32-at-requires-3 : tie.Need-u32-at-requires-3
+u32-at-requires-3 c κs = search needs
 
 cast-t17 : tie.Need-cast-t17
 cast-t17 c = search needs
 
-number-requires-8 : tie.Need-number-requires-8
-number-requires-8 c κs = search needs
+u64-at-requires : tie.Need-u64-at-requires
+u64-at-requires c κs = search needs
 
 -- a file of 32 bytes is read
 read-whole : (bytes : List ℕ) → length bytes ≡ 32 → readingOf bytes ≡ Read (settingsOf bytes)
@@ -58,7 +70,7 @@ unfolding readingOf
 read-whole bytes h = simp (eq-eqb (length bytes) 32 h)
 
 -- four bytes as a signed number
-place : {n m : ℕ} → n ≡ m → n < 256 ^ 4 → toZ w64 n ≡ pos m
+place : {n m : ℕ} → n ≡ m → n < 4294967296 → toZ w64 n ≡ pos m
 place {n} e h = toZ-pos w64 n (omega arith) ∙ ap pos e
 
 returns-2 : tie.Need-returns-2
@@ -74,14 +86,14 @@ returns-2 c =
     (λ i.
     Read
     (record {
-      width = n1 .number .ensures .0 i;
-      height = n2 .number2 .ensures .0 i;
-      threshold = n3 .number3 .ensures .0 i;
-      needed = n4 .number4 .ensures .0 i;
-      cx = place (n5 .number5 .ensures .0) (n5 .number5 .ensures .1) i;
-      cy = place (n6 .number6 .ensures .0) (n6 .number6 .ensures .1) i;
-      focal = place (n7 .number7 .ensures .0) (n7 .number7 .ensures .1) i;
-      tolerance = c .number8 .ensures .0 i;
+      width = n1 .u16-at .ensures i;
+      height = n2 .u16-at2 .ensures i;
+      threshold = n3 .u16-at3 .ensures i;
+      needed = n4 .u16-at4 .ensures i;
+      cx = place (n5 .u32-at .ensures) (n5 .u32-at .ok) i;
+      cy = place (n6 .u32-at2 .ensures) (n6 .u32-at2 .ok) i;
+      focal = place (n7 .u32-at3 .ensures) (n7 .u32-at3 .ok) i;
+      tolerance = c .u64-at .ensures i;
     }))
     ∙ sym (read-whole _ (n1 .before .if1 .left))
 
@@ -90,15 +102,19 @@ read-settings-spec =
     tie.close
     (tie.spec
     returns
-    number-requires
-    number-requires-2
-    number-requires-3
-    number-requires-4
-    number-requires-5
+    u16-at-requires
+    cast-t2
+    u16-at-requires-2
+    cast-t7
+    u16-at-requires-3
+    cast-t9
+    u16-at-requires-4
+    cast-t11
+    u32-at-requires
     cast-t13
-    number-requires-6
+    u32-at-requires-2
     cast-t15
-    number-requires-7
+    u32-at-requires-3
     cast-t17
-    number-requires-8
+    u64-at-requires
     returns-2)
