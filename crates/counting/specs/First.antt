@@ -6,6 +6,7 @@ use native.Mathlib.Decide.{decLe}
 use native.Mathlib.Nat.{le-antisymm}
 use native.Mathlib.Omega.{arith}
 use borrow.Author.Count.{below-more}
+use Rattle.counting.specs.Contradiction.{contradiction}
 
 -- of m numbers from k on the first that the test takes, or the number behind them
 unfoldable pub firstFrom : (ℕ → Bool) → ℕ → ℕ → ℕ
@@ -43,9 +44,7 @@ module _ (f : ℕ → Bool) (n : ℕ) where
   not-behind : {p q : ℕ} → First f n p → First f n q → Dec (p ≤ q) → p ≤ q
   not-behind P Q (yes h) = h
   not-behind {p} {q} P Q (no h) =
-      let e : _≡_ {A = Bool} true false = sym (Q .taken (omega (arith, P .most))) ∙ P .none q (omega arith) in
-      let z : _≡_ {A = ℕ} 0 1 = cc in
-      omega arith
+      contradiction (sym (P .none q (omega arith)) ∙ Q .taken (omega (arith, P .most)))
 
   -- and the only one: whatever finds it has found `first f n`
   pub first-of : {p : ℕ} → First f n p → p ≡ first f n

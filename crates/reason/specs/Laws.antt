@@ -6,6 +6,7 @@ use Prim.Native.Nat.{ℕ, _+_, _-_, _≤_, _<_}
 use native.Mathlib.Omega.{arith}
 use lib.Dec.{ltb}
 use borrow.Author.Tests.{ltb-true, ltb-false}
+use Rattle.counting.specs.Contradiction.{contradiction}
 use Rattle.refusal.specs.declared.Outcome.{Outcome}
 use Rattle.refusal.specs.declared.Outcome.the-variants as outcomes
 use Rattle.refusal.specs.Table.{lowest, answered}
@@ -30,9 +31,6 @@ use Rattle.reason.specs.declared.Explanation.{Explanation}
 use Rattle.reason.specs.declared.Explanation.the-variants.{Refused, Given}
 use Rattle.reason.specs.Side.{sideNumber, firstSide}
 use Rattle.reason.specs.Reason.{peakReason, unlessBeaten, reasonOf, explanationOf, kindIn}
-
-pub no-path : {A : Type 0} → _≡_ {A = ℕ} 0 1 → A
-no-path z = absurd (omega arith)
 
 -- ---- the kind is the verdict's
 
@@ -86,7 +84,7 @@ given-is samples width height threshold row column reason = go (lowest (pixelRow
   where
     go : (o : Outcome) → answered Refused (Given (reasonOf samples width height threshold row column)) o ≡ Given reason → reason ≡ reasonOf samples width height threshold row column
     go outcomes.Accepted e = cc
-    go (outcomes.Refused r) e = let z : _≡_ {A = ℕ} 0 1 = cc in absurd (omega arith)
+    go (outcomes.Refused r) e = contradiction (cc)
 
 -- ---- the side that is named
 
@@ -132,7 +130,7 @@ module _ (width height row column : ℕ) where
           before Right h n = let m = ltb-false (width - 1 - column) 3 q in omega arith
           before Top h n = let m = ltb-false row 3 u in omega arith
           before Bottom h n = omega arith
-      go false p false q false u false v e = let z : _≡_ {A = ℕ} 0 1 = cc in absurd (omega arith)
+      go false p false q false u false v e = contradiction (cc)
 
 -- ---- what a reason names
 
@@ -165,31 +163,31 @@ module _ (samples : List ℕ) (width height threshold row column : ℕ) where
       let p : at samples width row column ≡ s = cc in
       let q : threshold ≡ t = cc in
       (sym p, sym q, omega (arith, ltb-true (at samples width row column) threshold d)))
-      (λ r c f e. no-path (cc))
-      (λ f e. no-path (cc))
-      (λ e. no-path (cc))
+      (λ r c f e. contradiction (cc))
+      (λ f e. contradiction (cc))
+      (λ e. contradiction (cc))
 
   -- the pixel that beats it first
   pub beaten-says : (r c : ℕ) → reasonOf samples width height threshold row column ≡ Beaten r c → FirstAt samples width height row column r c
   beaten-says r c =
       by-case (λ x. x ≡ Beaten r c → FirstAt samples width height row column r c)
-      (λ d e. no-path (cc))
+      (λ d e. contradiction (cc))
       (λ j k f e.
       let p : At j k ≡ At r c = cc in
       first-says samples width height row column r c (f ∙ p))
-      (λ f e. no-path (cc))
-      (λ e. no-path (cc))
+      (λ f e. contradiction (cc))
+      (λ e. contradiction (cc))
 
   -- the side that is broken first
   pub edge-says : (side : Side) → reasonOf samples width height threshold row column ≡ Edge side → FirstSide width height row column side
   edge-says side =
       by-case (λ x. x ≡ Edge side → FirstSide width height row column side)
-      (λ d e. no-path (cc))
-      (λ r c f e. no-path (cc))
+      (λ d e. contradiction (cc))
+      (λ r c f e. contradiction (cc))
       (λ f e.
       let p : firstSide width height row column ≡ side = cc in
       rw (← p) (side-says width height row column f))
-      (λ e. no-path (cc))
+      (λ e. contradiction (cc))
 
   -- the centroid of its window
   pub measured-says : (c : Centroid) → reasonOf samples width height threshold row column ≡ Measured c → MeasuredAs samples width height threshold row column c

@@ -9,6 +9,7 @@ use native.Mathlib.Omega.{arith}
 use lib.IntN.{ℤ}
 use lib.ListN.{length, getD, replicate}
 use lib.Seq.{ext-getD}
+use Rattle.counting.specs.Contradiction.{contradiction}
 use Rattle.refusal.specs.declared.Refusal.{Refusal}
 use Rattle.refusal.specs.declared.Outcome.{Outcome}
 use Rattle.refusal.specs.declared.Outcome.the-variants.{Accepted, Refused}
@@ -109,7 +110,7 @@ module _ (directions : List ℤ) (bytes : List ℕ) (needed tolerance : ℕ) (ws
   rows = refusalsOf directions bytes needed tolerance ws
 
   apart : {A : Type 0} (q : Refusal) → lowest rows ≡ Refused q → lowest rows ≡ Accepted → A
-  apart q e h = let z : _≡_ {A = ℕ} 0 1 = cc in absurd (omega arith)
+  apart q e h = contradiction (cc)
 
   pub refused-identified : (q : Refusal) → lowest rows ≡ Refused q → Identified directions bytes needed tolerance ws (refusedWith q)
   refused-identified q e = record { refused = λ p h i. record { outcome = (sym e ∙ h) i; stars = replicate 8 0 }; searched = λ h. apart q e h }

@@ -9,6 +9,7 @@ use native.Mathlib.Nat.{eq-or-lt-of-le, suc-mul, mul-add-div-right, mul-add-mod-
 use lib.ListN.{length}
 use lib.Dec.{leb, ltb, eqb}
 use borrow.Author.Tests.{le-leb, lt-leb, leb-false, eq-eqb, ne-eqb, eqb-true, eqb-false, lt-ltb, le-ltb, ltb-false}
+use Rattle.counting.specs.Contradiction.{contradiction}
 use Rattle.counting.specs.First.{first, first-is, first-of}
 use Rattle.assignment.specs.Order.{Ranked}
 use Rattle.assignment.proofs.Tests as tests
@@ -106,7 +107,7 @@ module _ (words : List ℕ) (dirs stars : ℕ) where
     where
       by : (b : Bool) → eqb (length words) (dirs * stars) ≡ b → cond b (judged (dirs * stars) (first (clashAt words stars) (dirs * stars))) (Bad 0) ≡ Good → length words ≡ dirs * stars
       by true q e = eqb-true (length words) (dirs * stars) q
-      by false q e = let z : _≡_ {A = ℕ} 0 1 = cc in absurd (omega arith)
+      by false q e = contradiction (cc)
 
   good-free : lentOf words dirs stars ≡ Good → (q : ℕ) → q < dirs * stars → clashAt words stars q ≡ false
   unfolding lentOf
@@ -116,7 +117,7 @@ module _ (words : List ℕ) (dirs stars : ℕ) where
       p = first (clashAt words stars) (dirs * stars)
 
       by : (b : Bool) → ltb p (dirs * stars) ≡ b → cond b (Bad p) Good ≡ Good → (q : ℕ) → q < dirs * stars → clashAt words stars q ≡ false
-      by true b e q l = let z : _≡_ {A = ℕ} 0 1 = cc in absurd (omega arith)
+      by true b e q l = contradiction (cc)
       by false b e q l = first-is (clashAt words stars) (dirs * stars) .none q (omega (arith, ltb-false p (dirs * stars) b))
 
   row-into : ((q : ℕ) → q < dirs * stars → clashAt words stars q ≡ false) → (i : ℕ) → i < dirs → Into stars stars (word words (i * stars))

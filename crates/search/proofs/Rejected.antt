@@ -6,6 +6,7 @@ use Prim.Native.Nat.{ℕ, _≤_, _<_}
 use native.Mathlib.Omega.{arith}
 use lib.IntN.{ℤ}
 use borrow.Author.Tests.{lt-ltb, le-ltb, ltb-false, not-false}
+use Rattle.counting.specs.Contradiction.{contradiction}
 use Rattle.refusal.specs.declared.Refusal.{Refusal}
 use Rattle.refusal.specs.declared.Outcome.{Outcome}
 use Rattle.refusal.specs.declared.Outcome.the-variants.{Accepted, Refused}
@@ -91,7 +92,7 @@ module _ (directions : List ℤ) (bytes : List ℕ) (needed tolerance : ℕ) (wo
 
       by : (o : Outcome) → lowest (catalogue.refusalsOf bytes) ≡ o → answered Refused (lowest rest) o ≡ Accepted → (lowest (catalogue.refusalsOf bytes) ≡ Accepted) × Asked directions (recordsIn bytes) needed tolerance words
       by Accepted q h = (q, beside-asked directions (recordsIn bytes) needed tolerance words h)
-      by (Refused r) q h = let z : _≡_ {A = ℕ} 0 1 = cc in absurd (omega arith)
+      by (Refused r) q h = contradiction (cc)
 
   pub accepted-ranked : lowest (refusalsOf directions bytes needed tolerance words) ≡ Accepted → Ranked (rankingOf (directionsIn directions) (recordsIn bytes) words)
   accepted-ranked e = good-ranked words (directionsIn directions) (recordsIn bytes) (all-accepted e .1 .good) .1

@@ -10,6 +10,7 @@ use borrow.Author.Tests.{lt-ltb, le-ltb, le-leb, lt-leb}
 use lib.Dec.{ltb, leb}
 use lib.ListN.{length, drop, getD, drop-of-length-le}
 use lib.Seq.{drop-cons}
+use Rattle.counting.specs.Contradiction.{contradiction}
 use Rattle.text.specs.declared.parse.Parsed.{Parsed}
 use Rattle.text.specs.declared.parse.Parsed.the-variants.{Number, NoNumber}
 use Rattle.text.specs.Decimal.{decimal}
@@ -82,7 +83,7 @@ module _ (v b : ℕ) where
   number-only n m e f = cc
 
   no-number : (n : ℕ) → one ≡ Number n → one ≡ NoNumber → ⊥
-  no-number n e f = let z : _≡_ {A = ℕ} 0 1 = cc in omega arith
+  no-number n e f = contradiction (cc)
 
   goes-on : (n : ℕ) (bytes : List ℕ) (d : Bool) → isDigit b ≡ d → Dec (next < 18446744073709551616) → one ≡ Number n → (n < 18446744073709551616) × (parsedFrom v (b ∷ bytes) ≡ parsedFrom n bytes)
   goes-on n bytes false p l e = absurd (no-number n e (byte-other p))

@@ -5,6 +5,7 @@ use mathlib.Core.List.{List}
 use Prim.Native.Nat.{ℕ, _≤_, _<_}
 use native.Mathlib.Omega.{arith}
 use borrow.Author.Tests.{ltb-false}
+use Rattle.counting.specs.Contradiction.{contradiction}
 use Rattle.window.specs.Window.{at, beaten}
 use Rattle.centroid.specs.Centroid.{brightness, centroidOf}
 use Rattle.centroid.specs.Range.{x-close, y-close}
@@ -55,9 +56,9 @@ module _ (samples : List ℕ) (width height threshold row column : ℕ) (c : Cen
           → (d : Bool) → edge width height row column ≡ d
           → cond a Dark (cond b Beaten (cond d Edge (Measured (centroidOf samples width row column)))) ≡ Measured c
           → MeasuredAs samples width height threshold row column c
-      go true p b q d r m = let z : _≡_ {A = ℕ} 0 1 = cc in absurd (omega arith)
-      go false p true q d r m = let z : _≡_ {A = ℕ} 0 1 = cc in absurd (omega arith)
-      go false p false q true r m = let z : _≡_ {A = ℕ} 0 1 = cc in absurd (omega arith)
+      go true p b q d r m = contradiction (cc)
+      go false p true q d r m = contradiction (cc)
+      go false p false q true r m = contradiction (cc)
       go false p false q false r m =
           let i = inside width height row column r in
           record {

@@ -7,6 +7,7 @@ use mathlib.Core.List.{List}
 use Prim.Native.Nat.{ℕ, _+_, _-_, _≤_, _<_, min}
 use native.Mathlib.Decide.{decLt}
 use native.Mathlib.Omega.{arith}
+use Rattle.counting.specs.Contradiction.{contradiction}
 use Rattle.counting.specs.First.{First, first, first-is, first-of}
 use Rattle.window.specs.declared.Beating.{Beating}
 use Rattle.window.specs.declared.Beating.the-variants.{At, Nothing}
@@ -53,14 +54,14 @@ module _ (samples : List ℕ) (width height row column : ℕ) where
     where
       go : (x : Beating) (b : Bool) → cond b x Nothing ≡ At r c → b ≡ true
       go x true e = refl
-      go x false e = let z : _≡_ {A = ℕ} 0 1 = cc in absurd (omega arith)
+      go x false e = contradiction (cc)
 
   pub nothing-unbeaten : firstBeating samples width height row column ≡ Nothing → beaten samples width height row column ≡ false
   unfolding firstBeating
   nothing-unbeaten = go _ _ (beaten samples width height row column)
     where
       go : (r c : ℕ) (b : Bool) → cond b (At r c) Nothing ≡ Nothing → b ≡ false
-      go r c true e = let z : _≡_ {A = ℕ} 0 1 = cc in absurd (omega arith)
+      go r c true e = contradiction (cc)
       go r c false e = refl
 
 -- ---- in words, both ways
@@ -75,8 +76,7 @@ first-below f n k h e =
     go (yes l) = l
     go (no l) =
         let d = first-is f n .none k (omega arith) in
-        let z : _≡_ {A = ℕ} 0 1 = cc in
-        absurd (omega arith)
+        contradiction (cc)
 
 -- the pixel at r, c is of the window and wins, and no pixel of the window that stands before it does
 pub record FirstAt (samples : List ℕ) (width height row column r c : ℕ) : Type 0 where
@@ -90,7 +90,7 @@ module _ (samples : List ℕ) (width height row column : ℕ) where
   winner-hits j k i w = hit samples width row column j k (omega arith) (omega arith) (omega arith) (omega arith) (says-beats samples width row column j k w)
 
   differ : (b : Bool) → b ≡ true → b ≡ false → ⊥
-  differ b x y = let z : _≡_ {A = ℕ} 0 1 = cc in omega arith
+  differ b x y = contradiction (cc)
 
   none-before-it : (r c : ℕ) → First (λ r. rowHits samples width row column r) height r → First (λ c. hits samples width row column r c) width c
       → (j k : ℕ) → InWindow width height row column j k → Earlier r c j k → Wins samples width row column j k → ⊥

@@ -9,6 +9,7 @@ use native.Mathlib.Nat.{not-suc-le-zero}
 use native.Mathlib.Omega.{arith}
 use lib.Dec.{ltb, leb, eqb}
 use borrow.Author.Tests.{leb-true, le-leb, ltb-true, ltb-false, lt-ltb, le-ltb, eqb-true, eqb-false}
+use Rattle.counting.specs.Contradiction.{contradiction}
 use Rattle.window.specs.Window.{some-below, at, near, earlier, beats, hits, rowHits, beaten}
 
 -- ---- a test of every number below a bound
@@ -41,7 +42,7 @@ some-not n k p e l = go (p k) refl
 
 pub some-found : (n : ℕ) (p : ℕ → Bool) → some-below n p ≡ true → (k : ℕ) × (k < n) × (p k ≡ true)
 unfolding some-below
-some-found zero p e = let z : _≡_ {A = Bool} false true = e in (0, (let y : _≡_ {A = ℕ} 0 1 = cc in omega arith), cc)
+some-found zero p e = contradiction e
 some-found (suc n) p e = go (p n) refl (λ d. some-found n p d) e
   where
     go : (b : Bool) → p n ≡ b → (some-below n p ≡ true → (k : ℕ) × (k < n) × (p k ≡ true)) → cond b true (some-below n p) ≡ true → (k : ℕ) × (k < suc n) × (p k ≡ true)
@@ -112,7 +113,7 @@ earlier-says row column r c = go (ltb r row) refl (ltb row r) refl
   where
     go : (a : Bool) → ltb r row ≡ a → (b : Bool) → ltb row r ≡ b → cond a true (cond b false (ltb c column)) ≡ true → Earlier row column r c
     go true p b q e = inl (ltb-true r row p)
-    go false p true q e = let z : _≡_ {A = ℕ} 0 1 = cc in absurd (omega arith)
+    go false p true q e = contradiction (cc)
     go false p false q e =
         let l = ltb-false r row p in
         let m = ltb-false row r q in

@@ -7,6 +7,7 @@ use Prim.Native.Nat.{ℕ, _≤_, _<_}
 use native.Mathlib.Omega.{arith}
 use lib.Dec.{ltb}
 use borrow.Author.Tests.{ltb-true, ltb-false}
+use Rattle.counting.specs.Contradiction.{contradiction}
 use Rattle.window.specs.Window.{at, beaten}
 use Rattle.window.specs.Laws.{Earlier, InWindow, Wins, says-beaten}
 
@@ -14,8 +15,7 @@ module _ (samples : List ℕ) (width height row column : ℕ) (unbeaten : beaten
   pub none-wins : (r c : ℕ) → InWindow width height row column r c → Wins samples width row column r c → ⊥
   none-wins r c i w =
       let b = says-beaten samples width height row column (record { r = r; c = c; near-by = i; wins = w }) in
-      let z : _≡_ {A = ℕ} 0 1 = cc in
-      omega arith
+      contradiction (cc)
 
   pub none-larger : (r c : ℕ) → InWindow width height row column r c → at samples width r c ≤ at samples width row column
   none-larger r c i = go (ltb (at samples width row column) (at samples width r c)) refl

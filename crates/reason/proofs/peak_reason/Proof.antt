@@ -7,6 +7,7 @@ use mathlib.Core.List.{List}
 use Prim.Native.Nat.{ℕ, _<_}
 use native.Mathlib.Omega.{arith}
 use denote.Enum.Declared as declared
+use Rattle.counting.specs.Contradiction.{contradiction}
 use Rattle.verdict.proofs.Kind as enum
 use Rattle.centroid.specs.Centroid.{centroidOf}
 use Rattle.centroid.specs.declared.Centroid.{Centroid}
@@ -17,16 +18,16 @@ use Rattle.reason.specs.declared.Reason.{Reason}
 use Rattle.reason.specs.declared.Reason.the-variants.{Dark, Beaten, Edge, Measured}
 use Rattle.reason.specs.Side.{firstSide}
 use Rattle.reason.specs.Reason.{kindIn, peakReason}
-use Rattle.reason.specs.Laws.{peak-kind-is, no-path}
+use Rattle.reason.specs.Laws.{peak-kind-is}
 use Rattle.reason.proofs.peak_reason.Statement.{statement}
 use Rattle.reason.proofs.peak_reason.Tie as tie
 
 -- ---- a reason by its kind
 
 measured-is : (c : Centroid) (x : Reason) → kindIn x ≡ kinds.Measured c → Measured c ≡ x
-measured-is c (Dark s t) e = no-path (cc)
-measured-is c (Beaten r k) e = no-path (cc)
-measured-is c (Edge s) e = no-path (cc)
+measured-is c (Dark s t) e = contradiction (cc)
+measured-is c (Beaten r k) e = contradiction (cc)
+measured-is c (Edge s) e = contradiction (cc)
 measured-is c (Measured m) e = let p : c ≡ m = cc in ap Measured p
 
 abbrev tag : Kind → ℕ
