@@ -1,4 +1,4 @@
--- The numbers of document 01's table, by the names that the code has for them. Assumes nothing.
+-- The numbers of document 01's table, and of the requests of document 02 behind it, by the names that the code has for them. Assumes nothing.
 use mathlib.Core.List.{List, [], _∷_}
 use Prim.Native.Nat.{ℕ}
 
@@ -47,8 +47,14 @@ close = 14
 abbrev pub pixel : ℕ
 pixel = 15
 
+abbrev pub indexRoom : ℕ
+indexRoom = 16
+
+abbrev pub index : ℕ
+index = 17
+
 -- all of them, in their order
 abbrev pub inOrder : List ℕ
 inOrder =
     size ∷ samples ∷ threshold ∷ sample ∷ settings ∷ catalogue ∷ recordRule ∷ directions ∷
-    demand ∷ room ∷ ranking ∷ few ∷ noFit ∷ close ∷ pixel ∷ []
+    demand ∷ room ∷ ranking ∷ few ∷ noFit ∷ close ∷ pixel ∷ indexRoom ∷ index ∷ []

@@ -35,9 +35,13 @@ pub const NO_FIT: u32 = 13;
 pub const CLOSE: u32 = 14;
 // The pixel asked for is outside the frame.
 pub const PIXEL: u32 = 15;
+// The room lent for the index is shorter than the index.
+pub const INDEX_ROOM: u32 = 16;
+// The index is not the one for this catalogue and floor.
+pub const INDEX: u32 = 17;
 
 // All of them in the table's order, each the number that specs/Numbers has under its name.
-pub fn numbers_in_order() -> [u32; 15]
+pub fn numbers_in_order() -> [u32; 17]
     ensures { λ r. ⌜ r ≡ inOrder ⌝ }
 {
     [
@@ -56,6 +60,8 @@ pub fn numbers_in_order() -> [u32; 15]
         NO_FIT,
         CLOSE,
         PIXEL,
+        INDEX_ROOM,
+        INDEX,
     ]
 }
 

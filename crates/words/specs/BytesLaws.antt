@@ -5,8 +5,8 @@ use mathlib.Core.Path.{_≡_, refl, sym, ap, _∙_}
 use Prim.Native.Nat.{ℕ, zero, suc, _+_, _*_, _/_, _%_, _^_, _≤_, _<_}
 use native.Mathlib.Nat.{zero-add, add-zero, add-suc, pow-succ', mul-assoc, not-suc-le-zero}
 use native.Mathlib.Omega.{arith}
-use lib.ListN.{length, set, getD, length-append, length-set, List·getD-append}
-use lib.Seq.{sets, getD-at, getD-set-same, getD-set-other}
+use lib.ListN.{length, set, getD, take, drop, length-append, length-set, length-drop, List·getD-append}
+use lib.Seq.{sets, getD-at, getD-drop, getD-set-same, getD-set-other, take-suc}
 use Rattle.words.specs.Number.{numberAt}
 use Rattle.words.specs.NumberLaws.{number-same}
 use Rattle.words.specs.Bytes.{bytesOf}
@@ -43,7 +43,7 @@ put-join l at m n q r h =
     ∙ ap (sets l at) (sym (bytes-join m n q r h))
 
 -- n bytes hold every number below 256^n
-number-of : (n v : ℕ) → v < 256 ^ n → numberAt (bytesOf n v) 0 n ≡ v
+pub number-of : (n v : ℕ) → v < 256 ^ n → numberAt (bytesOf n v) 0 n ≡ v
 unfolding numberAt bytesOf
 number-of zero v h = omega arith
 number-of (suc n) v h =
@@ -80,3 +80,18 @@ pub read-beside : (l : List ℕ) (at n v to m : ℕ) → (to + m ≤ at) ⊎ (at
 read-beside l at n v to m side =
     number-same (sets l at (bytesOf n v)) l to to m
     (λ k q. sets-other l (bytesOf n v) at (to + k) (⊎-elim (λ (h : to + m ≤ at). inl (omega arith)) (λ (h : at + n ≤ to). inr (rw bytes-length (omega arith))) side))
+
+-- ---- what is read is written again
+
+pub write-back : (bytes : List ℕ) (at n : ℕ) → ((k : ℕ) → getD bytes k 0 < 256) → at + n ≤ length bytes → bytesOf n (numberAt bytes at n) ≡ take n (drop at bytes)
+unfolding bytesOf numberAt
+write-back bytes at zero b h = refl
+write-back bytes at (suc n) b h =
+    let l = b (at + n) in
+    let q : (256 * numberAt bytes at n + getD bytes (at + n) 0) / 256 ≡ numberAt bytes at n = omega arith in
+    let r : (256 * numberAt bytes at n + getD bytes (at + n) 0) % 256 ≡ getD bytes (at + n) 0 = omega arith in
+    let i = write-back bytes at n b (omega arith) in
+    let m : n < length (drop at bytes) = rw length-drop (omega arith) in
+    (λ j. bytesOf n (q j) ++ (r j ∷ []))
+    ∙ (λ j. i j ++ (sym (getD-drop at bytes n 0) j ∷ []))
+    ∙ sym (take-suc (drop at bytes) n 0 m)
