@@ -1,0 +1,36 @@
+-- `test::pair_ok` meets its contract: one test a part of the rule. Assumes nothing.
+use mathlib.Core.Path.{_≡_, sym, _∙_}
+use native.Mathlib.Omega.{arith}
+use Rattle.index.specs.CheckLaws.{says-yes, says-no}
+use borrow.Author.Needs.{needs}
+use Rattle.index.proofs.test.pair_ok.Statement.{statement}
+use Rattle.index.proofs.test.pair_ok.Tie as tie
+
+cast-a : tie.Need-cast-a
+cast-a c = search needs
+
+cast-b : tie.Need-cast-b
+cast-b c = search needs
+
+returns : tie.Need-returns
+returns c = says-no (λ p. omega (arith, p .order, c .if1 .taken))
+
+returns-2 : tie.Need-returns-2
+returns-2 c = says-no (λ p. omega (arith, p .inside, c .if2 .taken))
+
+returns-3 : tie.Need-returns-3
+returns-3 c = says-no (λ p. omega (arith, p .taken, c .if3 .taken))
+
+product-requires : tie.Need-product-requires
+product-requires c κs = search needs
+
+returns-4 : tie.Need-returns-4
+returns-4 c = says-no (λ p. omega (arith, p .is, c .if4 .taken, c .before .product .ensures))
+
+returns-5 : tie.Need-returns-5
+returns-5 c = says-yes (record { order = omega arith; inside = omega arith; taken = omega arith; is = omega (arith, c .if4 .left, c .before .product .ensures) })
+
+pub pair-ok-spec : {M : Type 1} → statement M
+pair-ok-spec =
+    tie.close
+    (tie.spec cast-a cast-b returns returns-2 returns-3 product-requires returns-4 returns-5)
