@@ -37,24 +37,25 @@ pub record Sound (directions : List ℤ) (bytes : List ℕ) (tolerance words : �
   pub near : tolerance ≤ 10000000000000000
   pub room : directionsIn directions * recordsIn bytes ≤ words
 
-module _ (directions : List ℤ) (bytes : List ℕ) (tolerance words : ℕ) where
-  beside-sound : lowest (rowsBeside directions (recordsIn bytes) tolerance words) ≡ Accepted
-      → Directions directions × (tolerance ≤ 10000000000000000) × (directionsIn directions * recordsIn bytes ≤ words)
-  unfolding rowsBeside Silent
-  beside-sound e =
-      let s = accepted-silent (rowsBeside directions (recordsIn bytes) tolerance words) e in (
-        ok-directions directions (not-false (listOk directions) (s .0)),
-        leb-true tolerance 10000000000000000 (not-false (toleranceOk tolerance) (s .1 .0)),
-        ltb-false words (directionsIn directions * recordsIn bytes) (s .1 .1 .0),
-      )
+-- none of 8, 9 and 10 applies
+pub beside-sound : (directions : List ℤ) (stars tolerance words : ℕ) → lowest (rowsBeside directions stars tolerance words) ≡ Accepted
+    → Directions directions × (tolerance ≤ 10000000000000000) × (directionsIn directions * stars ≤ words)
+unfolding rowsBeside Silent
+beside-sound directions stars tolerance words e =
+    let s = accepted-silent (rowsBeside directions stars tolerance words) e in (
+      ok-directions directions (not-false (listOk directions) (s .0)),
+      leb-true tolerance 10000000000000000 (not-false (toleranceOk tolerance) (s .1 .0)),
+      ltb-false words (directionsIn directions * stars) (s .1 .1 .0),
+    )
 
+module _ (directions : List ℤ) (bytes : List ℕ) (tolerance words : ℕ) where
   -- accepted exactly where it does
   pub accepted-sound : lowest (refusalsOf directions bytes tolerance words) ≡ Accepted → Sound directions bytes tolerance words
   accepted-sound h = go (lowest (catalogue.refusalsOf bytes)) refl
     where
       go : (o : Outcome) → lowest (catalogue.refusalsOf bytes) ≡ o → Sound directions bytes tolerance words
       go Accepted e =
-          let b = beside-sound (sym (outcome-joined directions bytes tolerance words e) ∙ h) in
+          let b = beside-sound directions (recordsIn bytes) tolerance words (sym (outcome-joined directions bytes tolerance words e) ∙ h) in
           record { catalogue = accepted-valid bytes e; list = b .0; near = b .1; room = b .2 }
       go (Refused r) e =
           let d : Refused r ≡ Accepted = sym (outcome-joined directions bytes tolerance words e) ∙ h in

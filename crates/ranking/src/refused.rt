@@ -10,7 +10,7 @@ ghost use Rattle.ranking.specs.Refusals.{rowsBeside, refusalsOf};
 const LARGEST_TOLERANCE: u64 = 10000000000000000;
 
 // The lowest of 8, 9 and 10, beside a catalogue of so many stars and a room of so many words.
-fn beside(directions: &[i32], stars: usize, tolerance: u64, words: usize) -> Outcome
+pub fn beside(directions: &[i32], stars: usize, tolerance: u64, words: usize) -> Outcome
     requires { ⌜ stars ≤ 512 ⌝ }
     ensures { λ r. ⌜ r ≡ lowestOf (rowsBeside (now (directions .entry)) stars tolerance words) ⌝ }
 {
