@@ -21,7 +21,7 @@ use Rattle.search.specs.Identified.{setupFor}
 use Rattle.tracker.specs.declared.Settings.{Settings}
 use Rattle.tracker.specs.declared.Tracked.{Tracked}
 use Rattle.tracker.specs.Sight.{AllInFrame}
-use Rattle.tracker.specs.Chain.{sightsOf, ourRanking, Call, listed}
+use Rattle.tracker.specs.Chain.{sightsOf, ourRanking, rankedRoom, Call, listed}
 
 -- a report with enough stars, each on the frame; a valid catalogue; a demand in range; and a room for any ranking
 pub record Ready (report : Report) (bytes : List ℕ) (s : Settings) (room : List ℕ) : Type 0 where
@@ -34,6 +34,13 @@ pub record Ready (report : Report) (bytes : List ℕ) (s : Settings) (room : Lis
   pub near : s .tolerance ≤ 10000000000000000
   pub enough : s .needed ≤ report .count
   pub long : 4096 ≤ length room
+
+-- the directions of such a report, and a room in which our ranking stands, whichever way it was written
+pub record Ranked (report : Report) (directions : List ℤ) (bytes : List ℕ) (s : Settings) (room : List ℕ) : Type 0 where
+  pub before : List ℕ
+  pub ready : Ready report bytes s before
+  pub sights : directions ≡ sightsOf report bytes s
+  pub ranked : room ≡ rankedRoom report bytes s before
 
 -- demand 3: an accepted call names the first assignment that fits its own directions and ranking, and 13 means that none does
 pub record Names (report : Report) (bytes : List ℕ) (s : Settings) (t : Tracked) : Type 0 where

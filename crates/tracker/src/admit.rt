@@ -22,7 +22,7 @@ fn settings_outcome(settings: Settings) -> Outcome
 }
 
 // 6 and 7.
-fn catalogue_outcome(bytes: &[u8]) -> Outcome
+pub(crate) fn catalogue_outcome(bytes: &[u8]) -> Outcome
     ensures { λ r. ⌜ r ≡ lowest (refusalsOf (now (bytes .entry))) ⌝ }
 {
     match catalogue::check(bytes) {
@@ -48,18 +48,18 @@ fn demand_outcome(settings: Settings, words: usize, count: usize) -> Outcome
     Outcome::Accepted
 }
 
-// The frame's own outcome comes first.
-pub(crate) fn outcome(
+// The frame's own outcome comes first, and that of the stars, 6 and 7, before the demand's.
+pub fn outcome(
     frame: Outcome,
+    stars: Outcome,
     count: usize,
-    bytes: &[u8],
     settings: Settings,
     words: usize,
 ) -> Outcome
-    ensures { λ r. ⌜ r ≡ otherwise frame (otherwise (lowest (settingsRows settings)) (otherwise (lowest (refusalsOf (now (bytes .entry)))) (lowest (demandRows settings words count)))) ⌝ }
+    ensures { λ r. ⌜ r ≡ otherwise frame (otherwise (lowest (settingsRows settings)) (otherwise stars (lowest (demandRows settings words count)))) ⌝ }
 {
     let demand = demand_outcome(settings, words, count);
-    let catalogue = refusal::otherwise(catalogue_outcome(bytes), demand);
+    let catalogue = refusal::otherwise(stars, demand);
     let camera = refusal::otherwise(settings_outcome(settings), catalogue);
     refusal::otherwise(frame, camera)
 }

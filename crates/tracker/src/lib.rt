@@ -1,8 +1,8 @@
 // The whole chain as one call: a frame, a catalogue and settings in, the stars' names and the attitude out.
-mod admit;
-mod locate;
+pub mod admit;
+pub mod locate;
 mod orient;
-mod sight;
+pub mod sight;
 
 use attitude::Matrix;
 use centroid::Centroid;
@@ -38,7 +38,7 @@ pub struct Tracked {
 }
 
 // An answer that hands over nothing.
-fn refused(refusal: Refusal) -> Tracked
+pub fn refused(refusal: Refusal) -> Tracked
     ensures { λ r. ⌜ r ≡ refusedWith refusal ⌝ }
 {
     let zeros = Vec3 { x: 0, y: 0, z: 0 };
@@ -77,7 +77,8 @@ pub fn track(samples: &[u16], catalogue: &[u8], settings: Settings, room: &mut [
     let report = listing.report;
     let count = report.count;
     let words = room.len();
-    let outcome = admit::outcome(frame, count, catalogue, settings, words);
+    let stars = admit::catalogue_outcome(catalogue);
+    let outcome = admit::outcome(frame, stars, count, settings, words);
     match outcome {
         Outcome::Refused(r) => refused(r),
         Outcome::Accepted => locate::located(report, catalogue, settings, room),

@@ -10,7 +10,7 @@ use refusal::Outcome;
 use search::Identification;
 ghost use mathlib.Core.Path.{_≡_};
 ghost use Rattle.tracker.specs.Chain.{settledOf, locatedOf, rankedRoom};
-ghost use Rattle.tracker.specs.Ready.{Settles, Ready, Names};
+ghost use Rattle.tracker.specs.Ready.{Settles, Ready, Ranked, Names};
 
 // The attitude of what the search found, or the refusal.
 fn settle(report: Report, directions: &[i32], bytes: &[u8], found: Identification) -> Tracked
@@ -37,6 +37,26 @@ fn settle(report: Report, directions: &[i32], bytes: &[u8], found: Identificatio
     }
 }
 
+// The search over the ranking at the front of the room, and the attitude of what it finds.
+pub fn identified(
+    report: Report,
+    directions: &[i32],
+    bytes: &[u8],
+    settings: Settings,
+    room: &[u16],
+) -> Tracked
+    requires { ⌜ Ranked report (now directions) (now bytes) settings (now room) ⌝ }
+    ensures { λ r. ⌜ r ≡ locatedOf report (now (bytes .entry)) settings ⌝ }
+    ensures { λ r. ⌜ Names report (now (bytes .entry)) settings r ⌝ }
+{
+    let count = report.count;
+    let needed = settings.needed;
+    let tolerance = settings.tolerance;
+    let words = count * catalogue::records(bytes);
+    let found = search::search(directions, bytes, needed, tolerance, &room[..words]);
+    settle(report, directions, bytes, found)
+}
+
 // Each step takes what the one before gave. The ranking stays in the room, whatever the search and the attitude come to.
 pub(crate) fn located(report: Report, bytes: &[u8], settings: Settings, room: &mut [u16]) -> Tracked
     requires { ⌜ Ready report (now bytes) settings (now room) ⌝ }
@@ -46,12 +66,9 @@ pub(crate) fn located(report: Report, bytes: &[u8], settings: Settings, room: &m
 {
     let stars = report.stars;
     let count = report.count;
-    let needed = settings.needed;
     let tolerance = settings.tolerance;
     let numbers = sight::directions_of(stars, count, settings);
     let end = 3 * count;
-    let words = count * catalogue::records(bytes);
     ranking::rank(&numbers[..end], bytes, tolerance, room);
-    let found = search::search(&numbers[..end], bytes, needed, tolerance, &room[..words]);
-    settle(report, &numbers[..end], bytes, found)
+    identified(report, &numbers[..end], bytes, settings, room)
 }

@@ -24,15 +24,15 @@ use Rattle.tracker.proofs.track.Tie as tie
 -- ---- what each place knows
 
 abbrev start : tie.After-outcome → tie.Start
-start o = o .before .before .before .before .before .before
+start o = o .before .before .before .before .before .before .before
 
 abbrev whole : tie.After-outcome → Call
 whole o = let a = start o .args in call (a .samples .now) (a .catalogue .now) (a .settings) (a .room .now)
 
-listing-is : (o : tie.After-outcome) → o .before .before .list .result ≡ listed (whole o)
-listing-is o = o .before .before .list .ensures
+listing-is : (o : tie.After-outcome) → o .before .before .before .list .result ≡ listed (whole o)
+listing-is o = o .before .before .before .list .ensures
 
-report-is : (o : tie.After-outcome) → o .before .before .list .result .report ≡ listed (whole o) .report
+report-is : (o : tie.After-outcome) → o .before .before .before .list .result .report ≡ listed (whole o) .report
 report-is o = ap (λ (l : Listing). l .report) (listing-is o)
 
 -- the code's outcome is the lowest number of the table
@@ -40,7 +40,7 @@ outcome-is : (o : tie.After-outcome) → o .outcome .result ≡ lowest (refusals
 outcome-is o =
     let c = whole o in
     o .outcome .ensures
-    ∙ ap (λ (l : Listing). otherwise (l .outcome) (otherwise (lowest (settingsRows (c .settings))) (otherwise (lowest (catalogue.refusalsOf (c .catalogue))) (lowest (demandRows (c .settings) (length (c .room)) (l .report .count)))))) (listing-is o)
+    ∙ (λ i. otherwise (listing-is o i .outcome) (otherwise (lowest (settingsRows (c .settings))) (otherwise (o .before .catalogue-outcome .ensures i) (lowest (demandRows (c .settings) (length (c .room)) (listing-is o i .report .count))))))
     ∙ sym (refusals-joined c)
 
 -- ---- what the definitions come to
@@ -80,6 +80,9 @@ nothing-named c q t e h =
 
 list-requires : tie.Need-list-requires
 list-requires c κs = search needs
+
+catalogue-outcome-requires : tie.Need-catalogue-outcome-requires
+catalogue-outcome-requires c κs = search needs
 
 outcome-requires : tie.Need-outcome-requires
 outcome-requires c κs = search needs
@@ -128,4 +131,4 @@ returns-2 c =
     )
 
 pub track-spec : {M : Type 1} → statement M
-track-spec = tie.close (tie.spec list-requires outcome-requires enum-known-outcome refused-requires enum-told located-requires returns same-length returns-2)
+track-spec = tie.close (tie.spec list-requires catalogue-outcome-requires outcome-requires enum-known-outcome refused-requires enum-told located-requires returns same-length returns-2)

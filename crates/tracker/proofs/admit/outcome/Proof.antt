@@ -8,9 +8,6 @@ use Rattle.tracker.proofs.admit.outcome.Tie as tie
 demand-outcome-requires : tie.Need-demand-outcome-requires
 demand-outcome-requires c κs = search needs
 
-catalogue-outcome-requires : tie.Need-catalogue-outcome-requires
-catalogue-outcome-requires c κs = search needs
-
 otherwise-requires : tie.Need-otherwise-requires
 otherwise-requires c κs = search needs
 
@@ -28,18 +25,16 @@ returns c =
     let o2 = c .before in
     let camera = o2 .before in
     let o1 = camera .before in
-    let stars = o1 .before in
-    let demand = stars .before in
-    let inner = o1 .otherwise .ensures ∙ (λ i. otherwise (stars .catalogue-outcome .ensures i) (demand .demand-outcome .ensures i)) in
-    let frame = demand .before .before .args .frame in
-    c .otherwise3 .ensures ∙ ap (otherwise frame) (o2 .otherwise2 .ensures ∙ (λ i. otherwise (camera .settings-outcome .ensures i) (inner i)))
+    let demand = o1 .before in
+    let a = demand .before .args in
+    let inner = o1 .otherwise .ensures ∙ ap (otherwise (a .stars)) (demand .demand-outcome .ensures) in
+    c .otherwise3 .ensures ∙ ap (otherwise (a .frame)) (o2 .otherwise2 .ensures ∙ (λ i. otherwise (camera .settings-outcome .ensures i) (inner i)))
 
 pub outcome-spec : {M : Type 1} → statement M
 outcome-spec =
     tie.close
     (tie.spec
     demand-outcome-requires
-    catalogue-outcome-requires
     otherwise-requires
     settings-outcome-requires
     otherwise-requires-2
