@@ -6,6 +6,7 @@ pub mod Frame
 pub mod Reason
 pub mod Direction
 pub mod Catalogue
+pub mod Index
 pub mod Search
 pub mod Attitude
 pub mod Chain

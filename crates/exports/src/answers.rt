@@ -16,6 +16,7 @@ use direction::Direction;
 use frame::Judgement;
 use frame::Listing;
 use frame::Report;
+use index::Built;
 use reason::Explanation;
 use reason::Reason;
 use refusal::Outcome;
@@ -27,6 +28,7 @@ ghost use mathlib.Core.Path.{_≡_};
 ghost use Rattle.frame.specs.Stars.{nought as noughtOf};
 ghost use Rattle.exports.specs.Numbers.{acceptedNumbers, rankingNumbers};
 ghost use Rattle.exports.specs.Catalogue.{catalogueNumbers};
+ghost use Rattle.exports.specs.Index.{indexNumbers};
 ghost use Rattle.exports.specs.Direction.{directionNumbers};
 ghost use Rattle.exports.specs.Attitude.{attitudeNumbers};
 ghost use Rattle.exports.specs.Frame.{centroidIn, judgedNumbers, verdictNumbers, reportNumbers, listingNumbers};
@@ -132,6 +134,15 @@ pub(crate) fn of_catalogue(checked: Checked) -> [i64; 64]
     match checked {
         Checked::Refused(refusal) => of_refusal(refusal),
         Checked::Records(n) => of_count(n),
+    }
+}
+
+pub(crate) fn of_index(built: Built) -> [i64; 64]
+    ensures { λ r. ⌜ r ≡ indexNumbers built ⌝ }
+{
+    match built {
+        Built::Refused(refusal) => of_refusal(refusal),
+        Built::Records(n) => of_count(n),
     }
 }
 

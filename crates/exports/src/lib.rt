@@ -12,6 +12,7 @@ ghost use Rattle.exports.specs.Numbers.{rankingNumbers};
 ghost use Rattle.exports.specs.Frame.{verdictNumbers, listingNumbers};
 ghost use Rattle.exports.specs.Reason.{explanationNumbers};
 ghost use Rattle.exports.specs.Catalogue.{catalogueNumbers};
+ghost use Rattle.exports.specs.Index.{indexNumbers};
 ghost use Rattle.exports.specs.Search.{searchNumbers};
 ghost use Rattle.exports.specs.Direction.{directionNumbers};
 ghost use Rattle.exports.specs.Attitude.{vectorAt, attitudeHanded};
@@ -26,6 +27,9 @@ ghost use Rattle.search.specs.Identified.{identificationOf};
 ghost use Rattle.tracker.specs.Chain.{trackedOf, roomAfter as chainRoom};
 ghost use Rattle.tracker.specs.Chain.{call};
 ghost use Rattle.direction.specs.Direction.{directionOf};
+ghost use Rattle.index.specs.Build.{builtOf, roomAfter as indexRoom};
+ghost use Rattle.index_ranking.specs.Call.{call as rankingCall, outcomeOf, roomAfter as rankingRoom};
+ghost use Rattle.index_tracker.specs.Chain.{call as chainCall, trackedOf as trackedByIndex, roomAfter as chainRoomByIndex};
 pub use flat::signed;
 
 // Puts the numbers at the start of the room, and leaves a room that is too short as it is.
@@ -203,6 +207,70 @@ pub extern "C" fn mnemathor_chain(
         tolerance,
     };
     let tracked = tracker::track(samples, catalogue, settings, room);
+    let stars = catalogue::records(catalogue);
+    hand_over(out, answers::of_chain(tracked, stars));
+}
+
+// The index of a catalogue's pairs for a floor, written into the room: how many records it has.
+#[no_mangle]
+pub extern "C" fn mnemathor_index(catalogue: &[u8], floor: i64, room: &mut [u8], out: &mut [i64])
+    ensures { λ _. ⌜ now (room .exit) ≡ indexRoom (now (catalogue .entry)) floor (now (room .entry)) ⌝ }
+    ensures { λ _. ⌜ now (out .exit) ≡ handedOver (indexNumbers (builtOf (now (catalogue .entry)) floor (length (now (room .entry))))) (now (out .entry)) ⌝ }
+{
+    let built = index::build(catalogue, floor, room);
+    hand_over(out, answers::of_index(built));
+}
+
+// The ranking with the catalogue's index for a floor.
+#[no_mangle]
+pub extern "C" fn mnemathor_ranking_by_index(
+    directions: &[i32],
+    catalogue: &[u8],
+    index: &[u8],
+    floor: i64,
+    tolerance: u64,
+    room: &mut [u16],
+    out: &mut [i64],
+)
+    ensures { λ _. ⌜ now (room .exit) ≡ rankingRoom (rankingCall (now (directions .entry)) (now (catalogue .entry)) (now (index .entry)) floor tolerance (now (room .entry))) ⌝ }
+    ensures { λ _. ⌜ now (out .exit) ≡ handedOver (rankingNumbers (outcomeOf (rankingCall (now (directions .entry)) (now (catalogue .entry)) (now (index .entry)) floor tolerance (now (room .entry))))) (now (out .entry)) ⌝ }
+{
+    let outcome = index_ranking::rank(directions, catalogue, index, floor, tolerance, room);
+    hand_over(out, answers::of_ranking(outcome));
+}
+
+// The whole chain with the catalogue's index for a floor.
+#[no_mangle]
+pub extern "C" fn mnemathor_chain_by_index(
+    samples: &[u16],
+    width: usize,
+    height: usize,
+    threshold: usize,
+    cx: i64,
+    cy: i64,
+    f: i64,
+    catalogue: &[u8],
+    index: &[u8],
+    floor: i64,
+    needed: usize,
+    tolerance: u64,
+    room: &mut [u16],
+    out: &mut [i64],
+)
+    ensures { λ _. ⌜ now (room .exit) ≡ chainRoomByIndex (chainCall (now (samples .entry)) (now (catalogue .entry)) (now (index .entry)) floor (settingsOf width height threshold cx cy f needed tolerance) (now (room .entry))) ⌝ }
+    ensures { λ _. ⌜ now (out .exit) ≡ handedOver (chainNumbers (recordsIn (now (catalogue .entry))) (trackedByIndex (chainCall (now (samples .entry)) (now (catalogue .entry)) (now (index .entry)) floor (settingsOf width height threshold cx cy f needed tolerance) (now (room .entry))))) (now (out .entry)) ⌝ }
+{
+    let settings = Settings {
+        width,
+        height,
+        threshold,
+        needed,
+        cx,
+        cy,
+        focal: f,
+        tolerance,
+    };
+    let tracked = index_tracker::track(samples, catalogue, index, floor, settings, room);
     let stars = catalogue::records(catalogue);
     hand_over(out, answers::of_chain(tracked, stars));
 }
