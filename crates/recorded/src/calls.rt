@@ -1,4 +1,5 @@
 // The recorded calls, one function a kind: its numbers and buffers are read, the call is made, and what it hands over is printed.
+use crate::print::bytes_checksum;
 use crate::print::checksum;
 use crate::print::print_call;
 use crate::print::print_end;
@@ -190,6 +191,137 @@ pub fn chain(fd: i32, bytes: &mut [u8], samples: &mut [u16], stars: &mut [u8], r
         cy,
         f,
         &stars[0..s],
+        needed,
+        tolerance,
+        &mut room[0..w],
+    );
+}
+
+pub fn index(fd: i32, stars: &mut [u8], room: &mut [u8]) {
+    let floor = signed(word(fd));
+    let s = expand(fd, 1, stars);
+    let w = expand(fd, 1, room);
+    let before = bytes_checksum(&room[0..w]);
+    let mut out = [0i64; 64];
+    exports::mnemathor_index(&stars[0..s], floor, &mut room[0..w], &mut out);
+    print_call(10, &out, 3);
+    print_more(before);
+    print_more(bytes_checksum(&room[0..w]));
+    print_end();
+}
+
+fn print_ranking_by_index(
+    directions: &[i32],
+    stars: &[u8],
+    index: &[u8],
+    floor: i64,
+    tolerance: u64,
+    room: &mut [u16],
+) {
+    let before = checksum(room);
+    let mut out = [0i64; 64];
+    exports::mnemathor_ranking_by_index(directions, stars, index, floor, tolerance, room, &mut out);
+    print_call(11, &out, 2);
+    print_more(before);
+    print_more(checksum(room));
+    print_end();
+}
+
+pub fn ranking_by_index(
+    fd: i32,
+    bytes: &mut [u8],
+    stars: &mut [u8],
+    index: &mut [u8],
+    room: &mut [u16],
+) {
+    let floor = signed(word(fd));
+    let tolerance = word(fd);
+    let mut directions = [0i32; 40];
+    let d = read_directions(fd, bytes, &mut directions);
+    let s = expand(fd, 1, stars);
+    let x = expand(fd, 1, index);
+    let w = read_words(fd, bytes, room);
+    print_ranking_by_index(
+        &directions[0..d],
+        &stars[0..s],
+        &index[0..x],
+        floor,
+        tolerance,
+        &mut room[0..w],
+    );
+}
+
+fn print_chain_by_index(
+    samples: &[u16],
+    width: usize,
+    height: usize,
+    threshold: usize,
+    cx: i64,
+    cy: i64,
+    f: i64,
+    stars: &[u8],
+    index: &[u8],
+    floor: i64,
+    needed: usize,
+    tolerance: u64,
+    room: &mut [u16],
+) {
+    let before = checksum(room);
+    let mut out = [0i64; 64];
+    exports::mnemathor_chain_by_index(
+        samples,
+        width,
+        height,
+        threshold,
+        cx,
+        cy,
+        f,
+        stars,
+        index,
+        floor,
+        needed,
+        tolerance,
+        room,
+        &mut out,
+    );
+    print_call(12, &out, 47);
+    print_more(before);
+    print_more(checksum(room));
+    print_end();
+}
+
+pub fn chain_by_index(
+    fd: i32,
+    bytes: &mut [u8],
+    samples: &mut [u16],
+    stars: &mut [u8],
+    index: &mut [u8],
+    room: &mut [u16],
+) {
+    let width = word(fd) as usize;
+    let height = word(fd) as usize;
+    let threshold = word(fd) as usize;
+    let cx = signed(word(fd));
+    let cy = signed(word(fd));
+    let f = signed(word(fd));
+    let floor = signed(word(fd));
+    let needed = word(fd) as usize;
+    let tolerance = word(fd);
+    let n = read_words(fd, bytes, samples);
+    let s = expand(fd, 1, stars);
+    let x = expand(fd, 1, index);
+    let w = read_words(fd, bytes, room);
+    print_chain_by_index(
+        &samples[0..n],
+        width,
+        height,
+        threshold,
+        cx,
+        cy,
+        f,
+        &stars[0..s],
+        &index[0..x],
+        floor,
         needed,
         tolerance,
         &mut room[0..w],

@@ -10,6 +10,7 @@ fn run(
     bytes: &mut [u8],
     samples: &mut [u16],
     stars: &mut [u8],
+    index: &mut [u8],
     room: &mut [u16],
 ) {
     match kind {
@@ -20,6 +21,9 @@ fn run(
         5 => calls::ranking(fd, bytes, stars, room),
         6 => calls::search(fd, bytes, stars, room),
         7 => calls::attitude(fd, bytes),
+        10 => calls::index(fd, stars, index),
+        11 => calls::ranking_by_index(fd, bytes, stars, index, room),
+        12 => calls::chain_by_index(fd, bytes, samples, stars, index, room),
         8 => calls::chain(fd, bytes, samples, stars, room),
         _ => calls::reason(fd, bytes, samples),
     }
@@ -31,6 +35,7 @@ fn run_all(
     bytes: &mut [u8],
     samples: &mut [u16],
     stars: &mut [u8],
+    index: &mut [u8],
     room: &mut [u16],
 ) -> u64 {
     let mut cases: u64 = 0;
@@ -39,7 +44,7 @@ fn run_all(
         if kind == 0 {
             return cases;
         }
-        run(kind, fd, bytes, samples, stars, room);
+        run(kind, fd, bytes, samples, stars, index, room);
         cases += 1;
     }
     cases
@@ -50,8 +55,16 @@ fn run_file(fd: i32) -> u64 {
     let mut bytes = [0u8; 2100000];
     let mut samples = [0u16; 1050000];
     let mut stars = [0u8; 8320];
+    let mut index = [0u8; 1570000];
     let mut room = [0u16; 4200];
-    run_all(fd, &mut bytes, &mut samples, &mut stars, &mut room)
+    run_all(
+        fd,
+        &mut bytes,
+        &mut samples,
+        &mut stars,
+        &mut index,
+        &mut room,
+    )
 }
 
 fn main() {

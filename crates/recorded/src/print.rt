@@ -52,3 +52,20 @@ pub fn checksum(room: &[u16]) -> u64 {
     }
     sum
 }
+
+fn byte(x: u8) -> u64
+    ensures { λ r. ⌜ r < 256 ⌝ }
+{
+    x as u64
+}
+
+// The same of a room of bytes.
+pub fn bytes_checksum(room: &[u8]) -> u64 {
+    let mut sum: u64 = 0;
+    let mut i: usize = 0;
+    while i < room.len() {
+        sum = (sum * 31 + byte(room[i]) + 1) % 1000003;
+        i += 1;
+    }
+    sum
+}

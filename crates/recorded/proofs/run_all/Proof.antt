@@ -7,10 +7,10 @@ use Rattle.recorded.proofs.run_all.Statement.{statement}
 use Rattle.recorded.proofs.run_all.Tie as tie
 
 abbrev Inv-loop : tie.InvT-loop
-Inv-loop fd bytes₀ samples₀ stars₀ room₀ cases₀ bytes samples stars room cases = (cases ≤ 1000000) × (length bytes ≡ length bytes₀) × (length samples ≡ length samples₀) × (length stars ≡ length stars₀) × (length room ≡ length room₀)
+Inv-loop fd bytes₀ samples₀ stars₀ index₀ room₀ cases₀ bytes samples stars index room cases = (cases ≤ 1000000) × (length bytes ≡ length bytes₀) × (length samples ≡ length samples₀) × (length stars ≡ length stars₀) × (length index ≡ length index₀) × (length room ≡ length room₀)
 
 abbrev μ-loop : tie.MeasureT-loop
-μ-loop fd bytes₀ samples₀ stars₀ room₀ cases₀ bytes samples stars room cases = 1000000 - cases
+μ-loop fd bytes₀ samples₀ stars₀ index₀ room₀ cases₀ bytes samples stars index room cases = 1000000 - cases
 
 loop-holds : tie.Need-loop-holds Inv-loop μ-loop
 loop-holds c = search needs
@@ -30,6 +30,9 @@ same-length-3 c = search needs
 same-length-4 : tie.Need-same-length-4 Inv-loop μ-loop
 same-length-4 c = search needs
 
+same-length-5 : tie.Need-same-length-5 Inv-loop μ-loop
+same-length-5 c = search needs
+
 returns : tie.Need-returns Inv-loop μ-loop
 returns c = search needs
 
@@ -45,9 +48,6 @@ loop-less c = search needs
 loop-again : tie.Need-loop-again Inv-loop μ-loop
 loop-again c = search needs
 
-same-length-5 : tie.Need-same-length-5 Inv-loop μ-loop
-same-length-5 c = search needs
-
 same-length-6 : tie.Need-same-length-6 Inv-loop μ-loop
 same-length-6 c = search needs
 
@@ -56,6 +56,12 @@ same-length-7 c = search needs
 
 same-length-8 : tie.Need-same-length-8 Inv-loop μ-loop
 same-length-8 c = search needs
+
+same-length-9 : tie.Need-same-length-9 Inv-loop μ-loop
+same-length-9 c = search needs
+
+same-length-10 : tie.Need-same-length-10 Inv-loop μ-loop
+same-length-10 c = search needs
 
 returns-2 : tie.Need-returns-2 Inv-loop μ-loop
 returns-2 c = search needs
@@ -72,13 +78,15 @@ run-all-spec =
     same-length-2
     same-length-3
     same-length-4
+    same-length-5
     returns
     run-requires
     add-cases
     loop-less
     loop-again
-    same-length-5
     same-length-6
     same-length-7
     same-length-8
+    same-length-9
+    same-length-10
     returns-2)

@@ -16,7 +16,10 @@ slice-aggregate-run-all-3 : tie.Need-slice-aggregate-run-all-3
 slice-aggregate-run-all-3 c = sym (length-replicate {A = ℕ} 8320 0)
 
 slice-aggregate-run-all-4 : tie.Need-slice-aggregate-run-all-4
-slice-aggregate-run-all-4 c = sym (length-replicate {A = ℕ} 4200 0)
+slice-aggregate-run-all-4 c = sym (length-replicate {A = ℕ} 1570000 0)
+
+slice-aggregate-run-all-5 : tie.Need-slice-aggregate-run-all-5
+slice-aggregate-run-all-5 c = sym (length-replicate {A = ℕ} 4200 0)
 
 run-all-requires : tie.Need-run-all-requires
 run-all-requires c κs = search needs
@@ -32,5 +35,6 @@ run-file-spec =
     slice-aggregate-run-all-2
     slice-aggregate-run-all-3
     slice-aggregate-run-all-4
+    slice-aggregate-run-all-5
     run-all-requires
     returns)
