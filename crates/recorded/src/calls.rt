@@ -284,7 +284,7 @@ fn print_chain_by_index(
         room,
         &mut out,
     );
-    print_call(12, &out, 47);
+    print_call(12, &out, 46);
     print_more(before);
     print_more(checksum(room));
     print_end();
