@@ -1,9 +1,10 @@
 //! One call of an entry point with all it is lent, its form in the recorded cases, and its outcome.
 
 use crate::answer::{numbers, Numbers};
-use crate::chain::{chain_within, Settings};
+use crate::chain::{chain_by_index_within, chain_within, Settings};
+use crate::index::Index;
 use crate::search::{search_within, Effort, GaveUp};
-use crate::{attitude, catalogue, direction, frame, plain, ranking};
+use crate::{attitude, catalogue, direction, frame, index, plain, ranking};
 
 #[derive(Debug, Clone, Copy, PartialEq, Eq)]
 pub enum Entry {
@@ -16,9 +17,12 @@ pub enum Entry {
     Attitude,
     Chain,
     Reason,
+    Index,
+    RankingByIndex,
+    ChainByIndex,
 }
 
-pub const ENTRIES: [Entry; 9] = [
+pub const ENTRIES: [Entry; 12] = [
     Entry::Verdict,
     Entry::List,
     Entry::Direction,
@@ -28,6 +32,9 @@ pub const ENTRIES: [Entry; 9] = [
     Entry::Attitude,
     Entry::Chain,
     Entry::Reason,
+    Entry::Index,
+    Entry::RankingByIndex,
+    Entry::ChainByIndex,
 ];
 
 impl Entry {
@@ -42,6 +49,9 @@ impl Entry {
             Entry::Attitude => "attitude",
             Entry::Chain => "chain",
             Entry::Reason => "reason",
+            Entry::Index => "index",
+            Entry::RankingByIndex => "ranking by index",
+            Entry::ChainByIndex => "chain by index",
         }
     }
 
@@ -56,7 +66,7 @@ impl Entry {
 
     /// How many of the 64 numbers the recorded output shows.
     pub fn numbers_shown(self) -> usize {
-        [8, 29, 5, 3, 2, 11, 11, 46, 6][self.index()]
+        [8, 29, 5, 3, 2, 11, 11, 46, 6, 3, 2, 46][self.index()]
     }
 
     /// Whether plain Rust has this call too.
@@ -64,7 +74,7 @@ impl Entry {
         self.index() <= Entry::Chain.index()
     }
 
-    /// The refusals this call can give.
+    /// The refusals this call can give, the one that goes before the others first.
     pub fn refusals(self) -> &'static [u8] {
         match self {
             Entry::Verdict | Entry::Reason => &[1, 2, 3, 4, 15],
@@ -75,6 +85,9 @@ impl Entry {
             Entry::Search => &[6, 7, 8, 9, 11, 12, 13],
             Entry::Attitude => &[8, 14],
             Entry::Chain => &[1, 2, 3, 4, 5, 6, 7, 9, 10, 12, 13, 14],
+            Entry::Index => &[6, 7, 16],
+            Entry::RankingByIndex => &[6, 7, 17, 8, 9, 10],
+            Entry::ChainByIndex => &[1, 2, 3, 4, 5, 6, 7, 17, 9, 10, 12, 13, 14],
         }
     }
 }
@@ -204,6 +217,10 @@ pub struct Call {
     pub ranking: Buffer<u16>,
     pub room: Buffer<u16>,
     pub vectors: Buffer<i64>,
+    pub floor: i64,
+    pub index: Buffer<u8>,
+    /// The room for an index to be built.
+    pub bytes: Buffer<u8>,
 }
 
 /// The buffers of a call, as memory.
@@ -215,6 +232,8 @@ pub struct Lent {
     pub ranking: Vec<u16>,
     pub room: Vec<u16>,
     pub vectors: Vec<i64>,
+    pub index: Vec<u8>,
+    pub bytes: Vec<u8>,
 }
 
 impl Lent {
@@ -224,11 +243,12 @@ impl Lent {
     }
 }
 
-/// What a call gives: its numbers, and the room it was lent to write in.
+/// What a call gives: its numbers, and the rooms it was lent to write in.
 #[derive(Debug, Clone, PartialEq, Eq)]
 pub struct Outcome {
     pub out: Numbers,
     pub room: Vec<u16>,
+    pub bytes: Vec<u8>,
 }
 
 impl Call {
@@ -253,6 +273,9 @@ impl Call {
             ranking: Buffer::default(),
             room: Buffer::default(),
             vectors: Buffer::default(),
+            floor: 0,
+            index: Buffer::default(),
+            bytes: Buffer::default(),
         }
     }
 
@@ -275,6 +298,19 @@ impl Call {
                 signed(self.cx),
                 signed(self.cy),
                 signed(self.focal),
+                self.needed,
+                self.tolerance,
+            ],
+            Entry::Index => vec![signed(self.floor)],
+            Entry::RankingByIndex => vec![signed(self.floor), self.tolerance],
+            Entry::ChainByIndex => vec![
+                self.width,
+                self.height,
+                self.threshold,
+                signed(self.cx),
+                signed(self.cy),
+                signed(self.focal),
+                signed(self.floor),
                 self.needed,
                 self.tolerance,
             ],
@@ -307,6 +343,22 @@ impl Call {
                 self.catalogue.write(bytes);
                 self.room.write(bytes);
             }
+            Entry::Index => {
+                self.catalogue.write(bytes);
+                self.bytes.write(bytes);
+            }
+            Entry::RankingByIndex => {
+                self.directions.write(bytes);
+                self.catalogue.write(bytes);
+                self.index.write(bytes);
+                self.room.write(bytes);
+            }
+            Entry::ChainByIndex => {
+                self.samples.write(bytes);
+                self.catalogue.write(bytes);
+                self.index.write(bytes);
+                self.room.write(bytes);
+            }
         }
     }
 
@@ -332,6 +384,8 @@ impl Call {
             ranking: self.ranking.values(),
             room: self.room.values(),
             vectors: self.vectors.values(),
+            index: self.index.values(),
+            bytes: self.bytes.values(),
         }
     }
 
@@ -339,6 +393,7 @@ impl Call {
     pub fn run_wide(&self, effort: &mut Effort) -> Result<Outcome, GaveUp> {
         let set = self.settings();
         let (row, column) = (self.row.into(), self.column.into());
+        let floor = self.floor.into();
         let mut lent = self.lend();
         let out = match self.entry {
             Entry::Verdict => {
@@ -367,14 +422,30 @@ impl Call {
             Entry::Reason => {
                 numbers(&frame::reason(&lent.samples, set.width, set.height, set.threshold, row, column))
             }
+            Entry::Index => numbers(&index::index(&lent.catalogue, floor, &mut lent.bytes)),
+            Entry::RankingByIndex => numbers(&ranking::ranking_by_index(
+                &lent.directions,
+                &lent.catalogue,
+                Index { bytes: &lent.index, floor },
+                set.tolerance,
+                &mut lent.room,
+            )),
+            Entry::ChainByIndex => numbers(&chain_by_index_within(
+                &lent.samples,
+                &set,
+                &lent.catalogue,
+                Index { bytes: &lent.index, floor },
+                &mut lent.room,
+                effort,
+            )?),
         };
-        Ok(Outcome { out, room: lent.room })
+        Ok(Outcome { out, room: lent.room, bytes: lent.bytes })
     }
 
     pub fn run_plain(&self) -> Outcome {
         let mut lent = self.lend();
         let out = self.run_plain_on(&mut lent);
-        Outcome { out, room: lent.room }
+        Outcome { out, room: lent.room, bytes: lent.bytes }
     }
 
     /// The numbers plain Rust gives for the buffers lent, for a call that it has.
@@ -413,12 +484,19 @@ impl Call {
                 self.tolerance,
                 &mut lent.room,
             )),
-            Entry::Reason => panic!("plain Rust has no {}", self.entry.name()),
+            Entry::Reason | Entry::Index | Entry::RankingByIndex | Entry::ChainByIndex => {
+                panic!("plain Rust has no {}", self.entry.name())
+            }
         }
     }
 
-    /// Whether the call is lent a room to write in.
-    pub fn writes(&self) -> bool {
-        matches!(self.entry, Entry::Ranking | Entry::Chain)
+    /// Whether the call is lent a ranking room to write in.
+    pub fn writes_ranking(&self) -> bool {
+        matches!(self.entry, Entry::Ranking | Entry::Chain | Entry::RankingByIndex | Entry::ChainByIndex)
+    }
+
+    /// Whether the call is lent a room of bytes to write in.
+    pub fn writes_bytes(&self) -> bool {
+        self.entry == Entry::Index
     }
 }

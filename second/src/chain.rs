@@ -5,7 +5,8 @@ use crate::attitude;
 use crate::catalogue::{self, Star};
 use crate::direction::Optics;
 use crate::frame::Frame;
-use crate::ranking::{check_tolerance, rank};
+use crate::index::{self, Index};
+use crate::ranking::{check_tolerance, rank, rank_by_index};
 use crate::search::{check_enough, check_needed, first_fit, Effort, GaveUp};
 
 pub const CHAIN_ROOM: usize = 4_096;
@@ -40,22 +41,50 @@ pub fn chain_within(
     room: &mut [u16],
     effort: &mut Effort,
 ) -> Result<Result<Solution, Refusal>, GaveUp> {
-    match check(samples, settings, catalogue, room) {
+    chain_with(samples, settings, catalogue, None, room, effort)
+}
+
+/// The chain that votes by an index.
+pub fn chain_by_index_within(
+    samples: &[u16],
+    settings: &Settings,
+    catalogue: &[u8],
+    index: Index,
+    room: &mut [u16],
+    effort: &mut Effort,
+) -> Result<Result<Solution, Refusal>, GaveUp> {
+    chain_with(samples, settings, catalogue, Some(index), room, effort)
+}
+
+fn chain_with(
+    samples: &[u16],
+    settings: &Settings,
+    catalogue: &[u8],
+    index: Option<Index>,
+    room: &mut [u16],
+    effort: &mut Effort,
+) -> Result<Result<Solution, Refusal>, GaveUp> {
+    match check(samples, settings, catalogue, index, room) {
         Err(refusal) => Ok(Err(refusal)),
-        Ok((frame, optics, stars)) => run(&frame, &optics, &stars, settings, room, effort),
+        Ok((frame, optics, stars)) => run(&frame, &optics, &stars, index, settings, room, effort),
     }
 }
 
-/// Everything that is refused before a step is taken, in the order of the numbers.
+/// Everything that is refused before a step is taken, in the order of the numbers; an index is tested right
+/// after the catalogue.
 fn check<'a>(
     samples: &'a [u16],
     settings: &Settings,
     catalogue: &[u8],
+    index: Option<Index>,
     room: &[u16],
 ) -> Result<(Frame<'a>, Optics, Vec<Star>), Refusal> {
     let frame = Frame::check(samples, settings.width, settings.height, settings.threshold)?;
     let optics = Optics::check(settings.cx, settings.cy, settings.focal)?;
     let stars = catalogue::read(catalogue)?;
+    if let Some(index) = index {
+        index::check(index, &stars)?;
+    }
     check_needed(settings.needed)?;
     check_tolerance(settings.tolerance)?;
     if room.len() < CHAIN_ROOM {
@@ -69,6 +98,7 @@ fn run(
     frame: &Frame,
     optics: &Optics,
     stars: &[Star],
+    index: Option<Index>,
     settings: &Settings,
     room: &mut [u16],
     effort: &mut Effort,
@@ -82,7 +112,10 @@ fn run(
     if let Err(refusal) = check_enough(directions.len(), settings.needed) {
         return Ok(Err(refusal));
     }
-    rank(&directions, stars, settings.tolerance, room);
+    match index {
+        None => rank(&directions, stars, settings.tolerance, room),
+        Some(index) => rank_by_index(&directions, stars, index, settings.tolerance, room),
+    }
     let ranking = &room[..directions.len() * stars.len()];
     let assignment =
         match first_fit(&directions, stars, settings.needed, settings.tolerance, ranking, effort)? {

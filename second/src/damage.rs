@@ -1,7 +1,8 @@
 //! Damage that gives each refusal, in each of its ways.
 
 use crate::call::{Buffer, Call, Entry};
-use crate::generate::{HUGE, MOST_TOLERANCE};
+use crate::generate::{index_bytes, mirrored_catalogue, HUGE, MOST_TOLERANCE};
+use crate::index::RECORD_BYTES;
 use crate::random::Random;
 use crate::sky;
 
@@ -31,17 +32,16 @@ pub fn damage(call: &mut Call, reason: u8, random: &Random) {
         6 => damage_catalogue_length(call, random),
         7 => damage_record(call, random),
         8 => damage_vectors(call, random),
-        9 => match random.chance(50) && call.entry != Entry::Ranking {
+        9 => match random.chance(50) && !matches!(call.entry, Entry::Ranking | Entry::RankingByIndex) {
             true => {
                 call.needed = random.pick(&[0, 1, 2, 9, 10, 255, 256 + 3, (1 << 32) + 3, u64::MAX, 1 << 63])
             }
             false => call.tolerance = random.pick(&[MOST_TOLERANCE + 1, 1 << 63, (1 << 63) - 1, u64::MAX]),
         },
         10 => {
-            let full = if call.entry == Entry::Chain {
-                4_096
-            } else {
-                call.directions.len / 3 * (call.catalogue.len / 16)
+            let full = match call.entry {
+                Entry::Ranking | Entry::RankingByIndex => call.directions.len / 3 * (call.catalogue.len / 16),
+                _ => 4_096,
             };
             let len = random.pick(&[full.saturating_sub(1), full / 2, 0]);
             call.room = call.room.resized(len);
@@ -56,6 +56,12 @@ pub fn damage(call: &mut Call, reason: u8, random: &Random) {
             1 => call.column = random.pick(&[call.width, call.width.wrapping_add(1), random.pick(&HUGE)]),
             _ => (call.row, call.column) = (call.height, call.width),
         },
+        16 => {
+            let full = index_bytes(&call.catalogue.values(), call.floor).len();
+            let short = [full.saturating_sub(1), full.saturating_sub(RECORD_BYTES), full / 2, 0];
+            call.bytes = call.bytes.resized(random.pick(&short).min(call.bytes.len));
+        }
+        17 => damage_index(call, random),
         _ => {}
     }
 }
@@ -195,6 +201,49 @@ fn damage_ranking(call: &mut Call, random: &Random) {
         }
     }
     call.ranking = Buffer::of(&words);
+}
+
+/// Makes the index another one than that of the catalogue and the floor.
+fn damage_index(call: &mut Call, random: &Random) {
+    let mut bytes = call.index.values();
+    let records = bytes.len() / RECORD_BYTES;
+    if records == 0 {
+        // There is none to change: one too many, or a byte.
+        call.index = Buffer::of(&vec![0; random.pick(&[1, RECORD_BYTES])]);
+        return;
+    }
+    let record = random.pick(&[0, records - 1, random.below(records)]);
+    let at = RECORD_BYTES * record;
+    match random.below(10) {
+        // Another floor: just above the record's dot product, or far off; or the index of another floor.
+        0 => {
+            let dot = bytes[at..at + 8].iter().fold(0, |dot: u64, &byte| dot << 8 | u64::from(byte)) as i64;
+            call.floor = random.pick(&[dot.saturating_add(1), i64::MAX, i64::MIN]);
+        }
+        1 => drop(bytes.drain(..at + RECORD_BYTES)),
+        // A bit, a record left out, or one twice.
+        2 => bytes[random.below(records * RECORD_BYTES)] ^= 1 << random.below(8),
+        3 => drop(bytes.drain(at..at + RECORD_BYTES)),
+        4 => bytes.extend_from_within(at..at + RECORD_BYTES),
+        // Two neighbours exchanged, or the numbers of a record.
+        5 if record > 0 => bytes[at - RECORD_BYTES..at + RECORD_BYTES].rotate_left(RECORD_BYTES),
+        6 => bytes[at + 8..at + RECORD_BYTES].rotate_left(2),
+        // A byte short or long, or nothing at all.
+        7 => bytes.truncate(records * RECORD_BYTES - 1),
+        8 => bytes.push(0),
+        _ if random.chance(50) => bytes.clear(),
+        // The index of another catalogue.
+        _ => {
+            let mirrored = mirrored_catalogue(&call.catalogue).values();
+            let mut mixed = call.catalogue.values();
+            let star = 16 * random.below((mixed.len() / 16).max(1));
+            if star + 16 <= mixed.len() {
+                mixed[star..star + 16].copy_from_slice(&mirrored[star..star + 16]);
+            }
+            call.catalogue = Buffer::of(&mixed);
+        }
+    }
+    call.index = Buffer::of(&bytes);
 }
 
 /// Leaves fewer directions than are needed, with the ranking cut to them.

@@ -4,7 +4,7 @@ use crate::call::{Buffer, Call, Entry};
 use crate::damage::damage;
 use crate::random::Random;
 use crate::sky::{self, Turn};
-use crate::{direction, dot, frame, ranking};
+use crate::{catalogue, direction, dot, frame, index, ranking};
 
 pub const MOST_TOLERANCE: u64 = 10_000_000_000_000_000;
 
@@ -198,6 +198,72 @@ pub fn mirrored_catalogue(catalogue: &Buffer<u8>) -> Buffer<u8> {
     Buffer::of(&bytes)
 }
 
+// The index.
+
+/// The whole index of a catalogue; empty where the catalogue breaks its rules.
+pub fn index_bytes(catalogue: &[u8], floor: i64) -> Vec<u8> {
+    let records = catalogue.len() / 16;
+    let mut room = vec![0; index::RECORD_BYTES * (records * records.saturating_sub(1) / 2)];
+    let count = index::index(catalogue, floor.into(), &mut room).unwrap_or(0);
+    room.truncate(index::RECORD_BYTES * count);
+    room
+}
+
+/// Lends the call the right index for its catalogue and this floor.
+pub fn lend_index(call: &mut Call, floor: i64) {
+    call.floor = floor;
+    call.index = Buffer::of(&index_bytes(&call.catalogue.values(), floor));
+}
+
+/// A floor below, above or among the dot products of a catalogue, often exactly one of them.
+pub fn any_floor(random: &Random, catalogue: &[u8]) -> i64 {
+    let stars = catalogue::read(catalogue).expect("the catalogue keeps its rules");
+    let one_of_them = || {
+        let [a, b] = [0; 2].map(|_| stars[random.below(stars.len())].direction);
+        dot(&a, &b) as i64
+    };
+    match random.below(8) {
+        0 => random.pick(&[i64::MIN, i64::MIN + 1, -2_000_000_000_000_000_000]),
+        1 => random.pick(&[i64::MAX, 2_000_000_000_000_000_000, 1_000_000_000_000_000_001]),
+        2 => random.pick(&[0, 1, -1]),
+        3 => random.between(-1_000_000_000_000_000_000, 1_000_000_000_000_000_000),
+        4 => one_of_them() + 1,
+        _ => one_of_them(),
+    }
+}
+
+/// A call for the index of these stars, with some room to spare.
+pub fn index_call(random: &Random, stars: &[[i32; 3]]) -> Call {
+    let mut call = Call::new(Entry::Index);
+    let bytes = sky::catalogue(random, stars);
+    call.floor = any_floor(random, &bytes);
+    let spare = random.pick(&[0, 0, 1, 11, 12, 100]);
+    call.bytes = Buffer::repeat(index_bytes(&bytes, call.floor).len() + spare, &[0xA5, 7, 255]);
+    call.catalogue = Buffer::of(&bytes);
+    call
+}
+
+/// The ranking or chain call, sound and asked for by an index. For a ranking the floor often lies exactly where a
+/// pair of directions passes from the catalogue to the index.
+pub fn by_index(random: &Random, mut call: Call) -> Call {
+    call.entry = match call.entry {
+        Entry::Ranking => Entry::RankingByIndex,
+        _ => Entry::ChainByIndex,
+    };
+    let numbers = call.directions.values();
+    let floor = if numbers.len() >= 6 && random.chance(50) {
+        let wide: Vec<[i128; 3]> =
+            numbers.chunks(3).map(|v| [v[0].into(), v[1].into(), v[2].into()]).collect();
+        let (i, j) = (random.below(wide.len()), random.below(wide.len()));
+        let passes = dot(&wide[i], &wide[j]) - i128::from(call.tolerance);
+        (passes as i64) + random.between(-1, 1)
+    } else {
+        any_floor(random, &call.catalogue.values())
+    };
+    lend_index(&mut call, floor);
+    call
+}
+
 // The chain.
 
 /// What a scene for the whole chain should have.
@@ -342,6 +408,12 @@ pub fn any_call(random: &Random, entry: Entry) -> Call {
         Entry::Search => any_search(random),
         Entry::Attitude => any_attitude(random),
         Entry::Chain => any_chain(random),
+        Entry::Index => {
+            let most = if random.below(200) == 0 { 512 } else { random.pick(&[1, 3, 12, 40]) };
+            index_call(random, &any_stars(random, most))
+        }
+        Entry::RankingByIndex => by_index(random, any_ranking(random)),
+        Entry::ChainByIndex => by_index(random, any_chain(random)),
     };
     if random.chance(35) {
         for _ in 0..random.pick(&[1, 1, 1, 2, 3]) {

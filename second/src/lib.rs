@@ -13,6 +13,7 @@ pub mod desk;
 pub mod direction;
 pub mod files;
 pub mod frame;
+pub mod index;
 pub mod listing;
 pub mod ranking;
 pub mod search;

@@ -79,6 +79,50 @@ extern "C" {
         out: *mut i64,
         out_len: usize,
     );
+    fn mnemathor_index(
+        catalogue: *const u8,
+        catalogue_len: usize,
+        floor: i64,
+        room: *mut u8,
+        room_len: usize,
+        out: *mut i64,
+        out_len: usize,
+    );
+    fn mnemathor_ranking_by_index(
+        directions: *const i32,
+        directions_len: usize,
+        catalogue: *const u8,
+        catalogue_len: usize,
+        index: *const u8,
+        index_len: usize,
+        floor: i64,
+        tolerance: u64,
+        room: *mut u16,
+        room_len: usize,
+        out: *mut i64,
+        out_len: usize,
+    );
+    fn mnemathor_chain_by_index(
+        samples: *const u16,
+        samples_len: usize,
+        width: usize,
+        height: usize,
+        threshold: usize,
+        cx: i64,
+        cy: i64,
+        f: i64,
+        catalogue: *const u8,
+        catalogue_len: usize,
+        index: *const u8,
+        index_len: usize,
+        floor: i64,
+        needed: usize,
+        tolerance: u64,
+        room: *mut u16,
+        room_len: usize,
+        out: *mut i64,
+        out_len: usize,
+    );
 }
 
 /// Makes the call with the buffers lent and this room for the numbers. All buffers are lent as memory that
@@ -92,6 +136,8 @@ pub fn run(call: &Call, lent: &mut Lent, out: &mut [i64]) {
     let ranking = (lent.ranking.as_mut_ptr(), lent.ranking.len());
     let room = (lent.room.as_mut_ptr(), lent.room.len());
     let vectors = (lent.vectors.as_mut_ptr(), lent.vectors.len());
+    let index = (lent.index.as_mut_ptr(), lent.index.len());
+    let bytes = (lent.bytes.as_mut_ptr(), lent.bytes.len());
     let out = (out.as_mut_ptr(), out.len());
     // Safe as long as the library keeps to the lengths: every pointer is to a live buffer of that length.
     unsafe {
@@ -149,6 +195,44 @@ pub fn run(call: &Call, lent: &mut Lent, out: &mut [i64]) {
             Entry::Reason => {
                 mnemathor_reason(samples.0, samples.1, width, height, threshold, row, column, out.0, out.1)
             }
+            Entry::Index => {
+                mnemathor_index(catalogue.0, catalogue.1, call.floor, bytes.0, bytes.1, out.0, out.1)
+            }
+            Entry::RankingByIndex => mnemathor_ranking_by_index(
+                directions.0,
+                directions.1,
+                catalogue.0,
+                catalogue.1,
+                index.0,
+                index.1,
+                call.floor,
+                call.tolerance,
+                room.0,
+                room.1,
+                out.0,
+                out.1,
+            ),
+            Entry::ChainByIndex => mnemathor_chain_by_index(
+                samples.0,
+                samples.1,
+                width,
+                height,
+                threshold,
+                call.cx,
+                call.cy,
+                call.focal,
+                catalogue.0,
+                catalogue.1,
+                index.0,
+                index.1,
+                call.floor,
+                needed,
+                call.tolerance,
+                room.0,
+                room.1,
+                out.0,
+                out.1,
+            ),
         }
     }
 }

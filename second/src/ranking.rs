@@ -2,6 +2,7 @@
 
 use crate::answer::Refusal;
 use crate::catalogue::{self, Star};
+use crate::index::{self, Index};
 use crate::{dot, UNIT};
 
 const MOST_DIRECTIONS: usize = 8;
@@ -21,6 +22,25 @@ pub fn ranking(
         return Err(Refusal::new(10));
     }
     rank(&directions, &stars, tolerance, room);
+    Ok(())
+}
+
+/// The same ranking, with the votes taken from the index wherever it holds all that is needed.
+pub fn ranking_by_index(
+    directions: &[i32],
+    catalogue: &[u8],
+    index: Index,
+    tolerance: i128,
+    room: &mut [u16],
+) -> Result<(), Refusal> {
+    let stars = catalogue::read(catalogue)?;
+    index::check(index, &stars)?;
+    let directions = read_directions(directions)?;
+    check_tolerance(tolerance)?;
+    if room.len() < directions.len() * stars.len() {
+        return Err(Refusal::new(10));
+    }
+    rank_by_index(&directions, &stars, index, tolerance, room);
     Ok(())
 }
 
@@ -50,12 +70,60 @@ pub fn rank(directions: &[[i128; 3]], stars: &[Star], tolerance: i128, room: &mu
     let star_directions: Vec<[i128; 3]> = stars.iter().map(|star| star.direction).collect();
     let direction_dots = dot_table(directions);
     let star_dots = dot_table(&star_directions);
-    for i in 0..directions.len() {
+    for (i, dots_of_i) in direction_dots.iter().enumerate() {
         let votes: Vec<usize> =
-            (0..stars.len()).map(|a| votes(&direction_dots[i], i, &star_dots[a], a, tolerance)).collect();
-        for (place, record) in row(&votes).into_iter().enumerate() {
-            room[i * stars.len() + place] = record as u16;
+            (0..stars.len()).map(|a| votes(dots_of_i, i, &star_dots[a], a, tolerance)).collect();
+        write_row(&votes, i, room);
+    }
+}
+
+/// The rows by an index that has been tested; the room is long enough. A pair of directions whose agreeing star
+/// pairs may lie below the floor is voted by the full catalogue, every other pair by the index alone.
+pub fn rank_by_index(
+    directions: &[[i128; 3]],
+    stars: &[Star],
+    index: Index,
+    tolerance: i128,
+    room: &mut [u16],
+) {
+    for i in 0..directions.len() {
+        let mut votes = vec![0; stars.len()];
+        for j in (0..directions.len()).filter(|&j| j != i) {
+            let direction_pair = dot(&directions[i], &directions[j]);
+            if direction_pair - tolerance < index.floor {
+                vote_by_catalogue(direction_pair, stars, tolerance, &mut votes);
+            } else {
+                vote_by_records(direction_pair, index.bytes, tolerance, &mut votes);
+            }
         }
+        write_row(&votes, i, room);
+    }
+}
+
+/// A vote for each star of every agreeing pair of the catalogue.
+fn vote_by_catalogue(direction_pair: i128, stars: &[Star], tolerance: i128, votes: &mut [usize]) {
+    for (a, star) in stars.iter().enumerate() {
+        for (b, other) in stars.iter().enumerate() {
+            if b != a && agree(direction_pair, dot(&star.direction, &other.direction), tolerance) {
+                votes[a] += 1;
+            }
+        }
+    }
+}
+
+/// A vote for each star of every agreeing record of the index.
+fn vote_by_records(direction_pair: i128, index: &[u8], tolerance: i128, votes: &mut [usize]) {
+    for pair in index.chunks(index::RECORD_BYTES).map(index::read_record) {
+        if agree(direction_pair, pair.dot, tolerance) {
+            votes[pair.first] += 1;
+            votes[pair.second] += 1;
+        }
+    }
+}
+
+fn write_row(votes: &[usize], i: usize, room: &mut [u16]) {
+    for (place, record) in row(votes).into_iter().enumerate() {
+        room[i * votes.len() + place] = record as u16;
     }
 }
 

@@ -2,7 +2,10 @@
 //! implementation where plain Rust has no such call. It lets `compare` and `bench` be tried without the archive.
 
 use crate::answer::{numbers, Answer, Refusal};
-use crate::{frame, plain};
+use crate::chain::{chain_by_index_within, Settings};
+use crate::index::{self, Index};
+use crate::search::Effort;
+use crate::{frame, plain, ranking};
 use std::slice::{from_raw_parts, from_raw_parts_mut};
 
 /// A number of the interface as a wide one.
@@ -159,5 +162,84 @@ unsafe extern "C" fn mnemathor_reason(
     let samples = from_raw_parts(samples, samples_len);
     answer(out, out_len, || {
         frame::reason(samples, wide(width), wide(height), wide(threshold), wide(row), wide(column))
+    });
+}
+
+#[no_mangle]
+unsafe extern "C" fn mnemathor_index(
+    catalogue: *const u8,
+    catalogue_len: usize,
+    floor: i64,
+    room: *mut u8,
+    room_len: usize,
+    out: *mut i64,
+    out_len: usize,
+) {
+    let catalogue = from_raw_parts(catalogue, catalogue_len);
+    let room = from_raw_parts_mut(room, room_len);
+    answer(out, out_len, || index::index(catalogue, floor.into(), room));
+}
+
+#[no_mangle]
+unsafe extern "C" fn mnemathor_ranking_by_index(
+    directions: *const i32,
+    directions_len: usize,
+    catalogue: *const u8,
+    catalogue_len: usize,
+    index: *const u8,
+    index_len: usize,
+    floor: i64,
+    tolerance: u64,
+    room: *mut u16,
+    room_len: usize,
+    out: *mut i64,
+    out_len: usize,
+) {
+    let directions = from_raw_parts(directions, directions_len);
+    let catalogue = from_raw_parts(catalogue, catalogue_len);
+    let index = Index { bytes: from_raw_parts(index, index_len), floor: floor.into() };
+    let room = from_raw_parts_mut(room, room_len);
+    answer(out, out_len, || ranking::ranking_by_index(directions, catalogue, index, tolerance.into(), room));
+}
+
+#[no_mangle]
+unsafe extern "C" fn mnemathor_chain_by_index(
+    samples: *const u16,
+    samples_len: usize,
+    width: usize,
+    height: usize,
+    threshold: usize,
+    cx: i64,
+    cy: i64,
+    f: i64,
+    catalogue: *const u8,
+    catalogue_len: usize,
+    index: *const u8,
+    index_len: usize,
+    floor: i64,
+    needed: usize,
+    tolerance: u64,
+    room: *mut u16,
+    room_len: usize,
+    out: *mut i64,
+    out_len: usize,
+) {
+    let samples = from_raw_parts(samples, samples_len);
+    let catalogue = from_raw_parts(catalogue, catalogue_len);
+    let index = Index { bytes: from_raw_parts(index, index_len), floor: floor.into() };
+    let room = from_raw_parts_mut(room, room_len);
+    let settings = Settings {
+        width: wide(width),
+        height: wide(height),
+        threshold: wide(threshold),
+        cx: cx.into(),
+        cy: cy.into(),
+        focal: f.into(),
+        needed: wide(needed),
+        tolerance: tolerance.into(),
+    };
+    answer(out, out_len, || {
+        chain_by_index_within(samples, &settings, catalogue, index, room, &mut Effort::unlimited())
+            .expect("an unlimited search ends with an answer")
     });
 }

@@ -3,6 +3,7 @@
 
 use second::call::{Call, Entry, Lent, ENTRIES};
 use second::recorded::{self, input, output, Case};
+use second::search::Effort;
 use std::sync::OnceLock;
 
 /// The cases, made once for all tests.
@@ -57,6 +58,11 @@ impl Reader<'_> {
         self.buffer(1, 16 * 520).into_iter().map(|n| n as u8).collect()
     }
 
+    /// An index, or a room of bytes.
+    fn bytes(&mut self) -> Vec<u8> {
+        self.buffer(1, 12_288).into_iter().map(|n| n as u8).collect()
+    }
+
     fn scalars(&mut self, count: usize) -> Vec<u64> {
         (0..count).map(|_| self.number(8) as u64).collect()
     }
@@ -83,12 +89,28 @@ impl Reader<'_> {
                 assert_eq!(self.catalogue(), lent.catalogue);
                 assert_eq!(self.words(), lent.room);
             }
+            Entry::Index => {
+                assert_eq!(self.catalogue(), lent.catalogue);
+                assert_eq!(self.bytes(), lent.bytes);
+            }
+            Entry::RankingByIndex => {
+                assert_eq!(self.directions(), lent.directions);
+                assert_eq!(self.catalogue(), lent.catalogue);
+                assert_eq!(self.bytes(), lent.index);
+                assert_eq!(self.words(), lent.room);
+            }
+            Entry::ChainByIndex => {
+                assert_eq!(self.samples(), lent.samples);
+                assert_eq!(self.catalogue(), lent.catalogue);
+                assert_eq!(self.bytes(), lent.index);
+                assert_eq!(self.words(), lent.room);
+            }
         }
     }
 }
 
 fn scalar_count(entry: Entry) -> usize {
-    [5, 3, 5, 0, 1, 2, 0, 8, 5][entry.index()]
+    [5, 3, 5, 0, 1, 2, 0, 8, 5, 1, 2, 9][entry.index()]
 }
 
 #[test]
@@ -130,4 +152,23 @@ fn the_first_lines_are_the_bench_set() {
     // Frame A, its pixels in row order: only the middle one is lit.
     assert_eq!(text.lines().nth(24), Some("1 0 0 3 3 3 768 768 2400"));
     assert_eq!(text.lines().nth(23), Some("1 0 0 3 2 0 0 0 0"));
+}
+
+#[test]
+fn calls_by_an_index_give_what_plain_calls_give() {
+    let mut compared = 0;
+    for case in cases() {
+        let plain = match case.call.entry {
+            Entry::RankingByIndex => Entry::Ranking,
+            Entry::ChainByIndex => Entry::Chain,
+            _ => continue,
+        };
+        // Where the index is right, or is not come to, nothing is different.
+        if case.outcome.out[0] != 17 {
+            let call = Call { entry: plain, ..case.call.clone() };
+            assert_eq!(call.run_wide(&mut Effort::unlimited()).unwrap(), case.outcome);
+            compared += 1;
+        }
+    }
+    assert!(compared > 300, "{compared}");
 }

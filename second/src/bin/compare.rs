@@ -5,7 +5,7 @@
 
 use second::call::{Call, Entry, Lent, ENTRIES};
 use second::dense;
-use second::generate::{any_call, Scene};
+use second::generate::{any_call, lend_index, Scene};
 use second::hard::{unrelated, REACHES};
 use second::linked;
 use second::random::Random;
@@ -23,7 +23,7 @@ const DIFFERENCES_SHOWN: u64 = 5;
 /// No call of the library may take more stack than this.
 const STACK: usize = 64 * 1024;
 /// Calls of each entry point in a round: more of the quick ones.
-const CALLS_A_ROUND: [usize; ENTRIES.len()] = [4, 2, 8, 4, 2, 4, 8, 1, 4];
+const CALLS_A_ROUND: [usize; ENTRIES.len()] = [4, 2, 8, 4, 2, 4, 8, 1, 4, 2, 2, 1];
 
 #[derive(Default, Clone, Copy)]
 struct Count {
@@ -69,8 +69,8 @@ fn main() -> ExitCode {
     }
 }
 
-/// Calls of every entry point, and a chain and a hard search with as many stars as there may be, each in a
-/// thread with no more stack than a call may take: one that took more would end the program.
+/// Calls of every entry point, and some with as many stars as there may be, each in a thread with no more
+/// stack than a call may take: one that took more would end the program.
 fn run_with_little_stack(random: &Random) {
     let largest = Scene {
         width: 200,
@@ -81,9 +81,17 @@ fn run_with_little_stack(random: &Random) {
         equal_brightness: false,
         background: true,
     };
-    let calls = ENTRIES.iter().flat_map(|&entry| (0..8).map(move |_| any_call(random, entry)));
+    let mut calls: Vec<Call> =
+        ENTRIES.iter().flat_map(|&entry| (0..8).map(move |_| any_call(random, entry))).collect();
+    // The largest chain, the same with the index of all its pairs, that index to be built, and a hard search.
+    let chain = largest.call(random);
+    let mut by_index = Call { entry: Entry::ChainByIndex, ..chain.clone() };
+    lend_index(&mut by_index, i64::MIN);
+    let mut index = Call { entry: Entry::Index, ..by_index.clone() };
+    index.bytes = index.index.clone();
     let hard = unrelated(random, 5, 100_000_000_000_000, REACHES[0]);
-    for call in calls.chain([largest.call(random), hard]) {
+    calls.extend([chain, by_index, index, hard]);
+    for call in calls {
         let (mut lent, mut out) = (call.lend(), [UNTOUCHED; 64]);
         thread::scope(|scope| {
             let builder = thread::Builder::new().stack_size(STACK);
@@ -99,7 +107,7 @@ impl Run {
             return;
         };
         let mut expected_memory = call.lend();
-        expected_memory.room = expected.room;
+        (expected_memory.room, expected_memory.bytes) = (expected.room, expected.bytes);
         let mut lent = call.lend();
         let mut out = [UNTOUCHED; 64];
         linked::run(call, &mut lent, &mut out);
@@ -118,7 +126,7 @@ impl Run {
     }
 
     /// Room for fewer than 64 numbers, or an attitude of other than twelve: no number is handed over. The
-    /// ranking room takes what the call writes there all the same.
+    /// rooms take what the call writes there all the same.
     fn compare_nothing_handed_over(&mut self, random: &Random, mut call: Call) {
         let mut room = 64;
         if call.entry == Entry::Attitude && random.chance(50) {
@@ -127,11 +135,11 @@ impl Run {
             room = random.pick(&[0, 1, 2, 47, 63]);
         }
         let (mut expected, mut lent) = (call.lend(), call.lend());
-        if call.writes() {
+        if call.writes_ranking() || call.writes_bytes() {
             let Ok(outcome) = call.run_wide(&mut Effort::up_to(MOST_STARS_TRIED)) else {
                 return;
             };
-            expected.room = outcome.room;
+            (expected.room, expected.bytes) = (outcome.room, outcome.bytes);
         }
         let mut out = vec![UNTOUCHED; room];
         linked::run(&call, &mut lent, &mut out);
@@ -155,8 +163,12 @@ impl Run {
         show_buffer("catalogue", &lent.catalogue);
         show_buffer("ranking", &lent.ranking);
         show_buffer("vectors", &lent.vectors);
-        if call.writes() {
+        show_buffer("index", &lent.index);
+        if call.writes_ranking() {
             println!("  room of {} words", lent.room.len());
+        }
+        if call.writes_bytes() {
+            println!("  room of {} bytes", lent.bytes.len());
         }
     }
 
@@ -166,12 +178,12 @@ impl Run {
 
     fn print_table(&self) {
         println!(
-            "{:<14} {:>10} {:>10} {:>10} {:>11}",
+            "{:<17} {:>10} {:>10} {:>10} {:>11}",
             "entry point", "compared", "accepted", "refused", "differences"
         );
         let row = |name: &str, count: &Count| {
             let Count { compared, accepted, refused, differences } = count;
-            println!("{name:<14} {compared:>10} {accepted:>10} {refused:>10} {differences:>11}");
+            println!("{name:<17} {compared:>10} {accepted:>10} {refused:>10} {differences:>11}");
         };
         for entry in ENTRIES {
             row(entry.name(), &self.entries[entry.index()]);
@@ -200,6 +212,8 @@ fn first_difference(expected: &[i64], expected_memory: &Lent, out: &[i64], lent:
         .or_else(|| buffer_difference("ranking word", &expected_memory.ranking, &lent.ranking))
         .or_else(|| buffer_difference("room word", &expected_memory.room, &lent.room))
         .or_else(|| buffer_difference("vector number", &expected_memory.vectors, &lent.vectors))
+        .or_else(|| buffer_difference("index byte", &expected_memory.index, &lent.index))
+        .or_else(|| buffer_difference("byte", &expected_memory.bytes, &lent.bytes))
 }
 
 fn buffer_difference<T: PartialEq + std::fmt::Display>(

@@ -74,23 +74,26 @@ fn check(folder: &Path) -> ExitCode {
     }
 }
 
+/// The highest refusal number of any call.
+const MOST_REFUSAL: i64 = 17;
+
 /// How many cases there are of each kind, accepted and refused with each number.
 fn print_table(cases: &[Case]) {
-    print!("{:<10} {:>6} {:>6}", "", "cases", "ok");
-    (1..=15).for_each(|number| print!(" {number:>4}"));
+    print!("{:<16} {:>6} {:>6}", "", "cases", "ok");
+    (1..=MOST_REFUSAL).for_each(|number| print!(" {number:>4}"));
     println!();
     for entry in ENTRIES {
         let of_entry: Vec<&Case> = cases.iter().filter(|case| case.call.entry == entry).collect();
         let given = |number: i64| of_entry.iter().filter(|case| case.outcome.out[0] == number).count();
-        print!("{:<10} {:>6} {:>6}", entry.name(), of_entry.len(), given(0));
-        (1..=15).for_each(|number| print!(" {:>4}", given(number)));
+        print!("{:<16} {:>6} {:>6}", entry.name(), of_entry.len(), given(0));
+        (1..=MOST_REFUSAL).for_each(|number| print!(" {:>4}", given(number)));
         println!();
     }
     let tried =
         |entry: Entry| cases.iter().filter(move |case| case.call.entry == entry).map(|case| case.tried);
     println!("cases {}, left out as too long {}", cases.len(), calls().len() - cases.len());
     println!("samples lent {}", cases.iter().map(|case| case.call.samples.len).sum::<usize>());
-    for entry in [Entry::Search, Entry::Chain] {
+    for entry in [Entry::Search, Entry::Chain, Entry::ChainByIndex] {
         println!(
             "stars tried by {}: {} in all, {} at most",
             entry.name(),
