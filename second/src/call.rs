@@ -71,7 +71,7 @@ impl Entry {
 
     /// Whether plain Rust has this call too.
     pub fn in_plain(self) -> bool {
-        self.index() <= Entry::Chain.index()
+        self != Entry::Reason
     }
 
     /// The refusals this call can give, the one that goes before the others first.
@@ -484,9 +484,29 @@ impl Call {
                 self.tolerance,
                 &mut lent.room,
             )),
-            Entry::Reason | Entry::Index | Entry::RankingByIndex | Entry::ChainByIndex => {
-                panic!("plain Rust has no {}", self.entry.name())
-            }
+            Entry::Index => numbers(&plain::index(&lent.catalogue, self.floor, &mut lent.bytes)),
+            Entry::RankingByIndex => numbers(&plain::ranking_by_index(
+                &lent.directions,
+                &lent.catalogue,
+                plain::Index { bytes: &lent.index, floor: self.floor },
+                self.tolerance,
+                &mut lent.room,
+            )),
+            Entry::ChainByIndex => numbers(&plain::chain_by_index(
+                &lent.samples,
+                width,
+                height,
+                threshold,
+                self.cx,
+                self.cy,
+                self.focal,
+                &lent.catalogue,
+                plain::Index { bytes: &lent.index, floor: self.floor },
+                needed,
+                self.tolerance,
+                &mut lent.room,
+            )),
+            Entry::Reason => panic!("plain Rust has no {}", self.entry.name()),
         }
     }
 

@@ -2,10 +2,7 @@
 //! implementation where plain Rust has no such call. It lets `compare` and `bench` be tried without the archive.
 
 use crate::answer::{numbers, Answer, Refusal};
-use crate::chain::{chain_by_index_within, Settings};
-use crate::index::{self, Index};
-use crate::search::Effort;
-use crate::{frame, plain, ranking};
+use crate::{frame, plain};
 use std::slice::{from_raw_parts, from_raw_parts_mut};
 
 /// A number of the interface as a wide one.
@@ -177,7 +174,7 @@ unsafe extern "C" fn mnemathor_index(
 ) {
     let catalogue = from_raw_parts(catalogue, catalogue_len);
     let room = from_raw_parts_mut(room, room_len);
-    answer(out, out_len, || index::index(catalogue, floor.into(), room));
+    answer(out, out_len, || plain::index(catalogue, floor, room));
 }
 
 #[no_mangle]
@@ -197,9 +194,9 @@ unsafe extern "C" fn mnemathor_ranking_by_index(
 ) {
     let directions = from_raw_parts(directions, directions_len);
     let catalogue = from_raw_parts(catalogue, catalogue_len);
-    let index = Index { bytes: from_raw_parts(index, index_len), floor: floor.into() };
+    let index = plain::Index { bytes: from_raw_parts(index, index_len), floor };
     let room = from_raw_parts_mut(room, room_len);
-    answer(out, out_len, || ranking::ranking_by_index(directions, catalogue, index, tolerance.into(), room));
+    answer(out, out_len, || plain::ranking_by_index(directions, catalogue, index, tolerance, room));
 }
 
 #[no_mangle]
@@ -226,20 +223,11 @@ unsafe extern "C" fn mnemathor_chain_by_index(
 ) {
     let samples = from_raw_parts(samples, samples_len);
     let catalogue = from_raw_parts(catalogue, catalogue_len);
-    let index = Index { bytes: from_raw_parts(index, index_len), floor: floor.into() };
+    let index = plain::Index { bytes: from_raw_parts(index, index_len), floor };
     let room = from_raw_parts_mut(room, room_len);
-    let settings = Settings {
-        width: wide(width),
-        height: wide(height),
-        threshold: wide(threshold),
-        cx: cx.into(),
-        cy: cy.into(),
-        focal: f.into(),
-        needed: wide(needed),
-        tolerance: tolerance.into(),
-    };
     answer(out, out_len, || {
-        chain_by_index_within(samples, &settings, catalogue, index, room, &mut Effort::unlimited())
-            .expect("an unlimited search ends with an answer")
+        plain::chain_by_index(
+            samples, width, height, threshold, cx, cy, f, catalogue, index, needed, tolerance, room,
+        )
     });
 }

@@ -5,6 +5,7 @@
 
 mod clock;
 mod frames;
+mod indexes;
 mod rankings;
 mod scan;
 mod table;

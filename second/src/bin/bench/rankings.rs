@@ -1,5 +1,6 @@
-//! The ranking, and the whole chain.
+//! The ranking and the whole chain, and both by an index.
 
+use crate::indexes;
 use second::call::{Buffer, Call, Entry};
 use second::generate::{flat, random_stars, Scene, View, MOST_TOLERANCE};
 use second::random::Random;
@@ -7,10 +8,13 @@ use second::search::Effort;
 use second::sky;
 
 pub fn inputs(random: &Random) -> Vec<(&'static str, Call)> {
-    vec![
-        ("ranking, 8 directions, 512 stars", ranking(random)),
-        ("chain, 200 x 160 star field, 512 stars", chain(random)),
-    ]
+    let (ranking, chain) = (ranking(random), chain(random));
+    let by_index = indexes::inputs(&ranking, &chain);
+    let plain = vec![
+        ("ranking, 8 directions, 512 stars", ranking),
+        ("chain, 200 x 160 star field, 512 stars", chain),
+    ];
+    [plain, by_index].concat()
 }
 
 /// Eight stars of a sky of 512.
