@@ -36,7 +36,7 @@ start c = c .before .before .before .before .before .before .before
 
 -- so many records: those of a valid catalogue
 valid : (c : tie.After-known-told2) → Valid (start c .args .catalogue .now) × (c .before .checked2 .given .0 .0 ≡ recordsIn (start c .args .catalogue .now))
-valid c = checked-valid _ _ (sym (c .before .before .before .check .ensures) ∙ c .before .checked2 .given .1)
+valid c = checked-valid _ _ (sym (c .before .before .before .check .ensures .0) ∙ c .before .checked2 .given .1)
 
 -- the slice that is handed on
 fits : (c : tie.After-stars) → 3 * c .before .before .checked2 .given .0 .0 ≤ length (c .stars .result)
@@ -66,7 +66,7 @@ rank-from-requires c κs = let t = c .before .before in subst (Listed 512) (sym 
 returns : tie.Need-returns
 returns c =
     let s = c .before .before .before .before .before .before .before in
-    let e = joined (whole s) (checked-refused _ _ (sym (c .before .before .before .check .ensures) ∙ c .before .checked .given .1)) in
+    let e = joined (whole s) (checked-refused _ _ (sym (c .before .before .before .check .ensures .0) ∙ c .before .checked .given .1)) in
     (sym e, sym (refused-room (whole s) _ e))
 
 same-length : tie.Need-same-length

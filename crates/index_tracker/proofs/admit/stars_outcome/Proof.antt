@@ -35,7 +35,7 @@ start c = c .before .before .before .before .before .before
 
 -- so many records: those of a valid catalogue
 valid : (c : tie.After-known-told2) → Valid (start c .args .bytes .now) × (c .before .checked2 .given .0 .0 ≡ recordsIn (start c .args .bytes .now))
-valid c = checked-valid _ _ (sym (c .before .before .before .check .ensures) ∙ c .before .checked2 .given .1)
+valid c = checked-valid _ _ (sym (c .before .before .before .check .ensures .0) ∙ c .before .checked2 .given .1)
 
 -- the slice that is handed on
 fits : (c : tie.After-stars) → 3 * c .before .before .checked2 .given .0 .0 ≤ length (c .stars .result)
@@ -62,7 +62,7 @@ index-outcome-requires c κs = let t = c .before in subst (Listed 512) (sym (len
 returns : tie.Need-returns
 returns c =
     let a = c .before .before .before .before .before .before .args in
-    sym (stars-joined (a .bytes .now) (a .index .now) (a .floor) (checked-refused _ _ (sym (c .before .before .before .check .ensures) ∙ c .before .checked .given .1)))
+    sym (stars-joined (a .bytes .now) (a .index .now) (a .floor) (checked-refused _ _ (sym (c .before .before .before .check .ensures .0) ∙ c .before .checked .given .1)))
 
 returns-2 : tie.Need-returns-2
 returns-2 c =
