@@ -9,7 +9,7 @@ use crate::stream::read_directions;
 use crate::stream::read_vectors;
 use crate::stream::read_words;
 use crate::stream::word;
-use exports::signed;
+use handover::signed;
 
 pub fn verdict(fd: i32, bytes: &mut [u8], samples: &mut [u16]) {
     let width = word(fd) as usize;
@@ -19,7 +19,7 @@ pub fn verdict(fd: i32, bytes: &mut [u8], samples: &mut [u16]) {
     let column = word(fd) as usize;
     let n = read_words(fd, bytes, samples);
     let mut out = [0i64; 64];
-    exports::mnemathor_verdict(
+    exports_frame::mnemathor_verdict(
         &samples[0..n],
         width,
         height,
@@ -40,7 +40,7 @@ pub fn reason(fd: i32, bytes: &mut [u8], samples: &mut [u16]) {
     let column = word(fd) as usize;
     let n = read_words(fd, bytes, samples);
     let mut out = [0i64; 64];
-    exports::mnemathor_reason(
+    exports_frame::mnemathor_reason(
         &samples[0..n],
         width,
         height,
@@ -59,7 +59,7 @@ pub fn list(fd: i32, bytes: &mut [u8], samples: &mut [u16]) {
     let threshold = word(fd) as usize;
     let n = read_words(fd, bytes, samples);
     let mut out = [0i64; 64];
-    exports::mnemathor_list(&samples[0..n], width, height, threshold, &mut out);
+    exports_frame::mnemathor_list(&samples[0..n], width, height, threshold, &mut out);
     print_call(2, &out, 29);
     print_end();
 }
@@ -71,7 +71,7 @@ pub fn direction(fd: i32) {
     let x = signed(word(fd));
     let y = signed(word(fd));
     let mut out = [0i64; 64];
-    exports::mnemathor_direction(cx, cy, f, x, y, &mut out);
+    exports_stars::mnemathor_direction(cx, cy, f, x, y, &mut out);
     print_call(3, &out, 5);
     print_end();
 }
@@ -79,7 +79,7 @@ pub fn direction(fd: i32) {
 pub fn catalogue(fd: i32, stars: &mut [u8]) {
     let n = expand(fd, 1, stars);
     let mut out = [0i64; 64];
-    exports::mnemathor_catalogue(&stars[0..n], &mut out);
+    exports_stars::mnemathor_catalogue(&stars[0..n], &mut out);
     print_call(4, &out, 3);
     print_end();
 }
@@ -93,7 +93,7 @@ pub fn ranking(fd: i32, bytes: &mut [u8], stars: &mut [u8], room: &mut [u16]) {
     let w = read_words(fd, bytes, room);
     let before = checksum(&room[0..w]);
     let mut out = [0i64; 64];
-    exports::mnemathor_ranking(
+    exports_stars::mnemathor_ranking(
         &directions[0..d],
         &stars[0..s],
         tolerance,
@@ -114,7 +114,7 @@ pub fn search(fd: i32, bytes: &mut [u8], stars: &mut [u8], room: &mut [u16]) {
     let s = expand(fd, 1, stars);
     let w = read_words(fd, bytes, room);
     let mut out = [0i64; 64];
-    exports::mnemathor_search(
+    exports_stars::mnemathor_search(
         &directions[0..d],
         &stars[0..s],
         needed,
@@ -130,7 +130,7 @@ pub fn attitude(fd: i32, bytes: &mut [u8]) {
     let mut vectors = [0i64; 12];
     let n = read_vectors(fd, bytes, &mut vectors);
     let mut out = [0i64; 64];
-    exports::mnemathor_attitude(&vectors[0..n], &mut out);
+    exports_stars::mnemathor_attitude(&vectors[0..n], &mut out);
     print_call(7, &out, 11);
     print_end();
 }
@@ -150,7 +150,7 @@ fn print_chain(
 ) {
     let before = checksum(room);
     let mut out = [0i64; 64];
-    exports::mnemathor_chain(
+    exports_chain::mnemathor_chain(
         samples,
         width,
         height,
@@ -203,7 +203,7 @@ pub fn index(fd: i32, stars: &mut [u8], room: &mut [u8]) {
     let w = expand(fd, 1, room);
     let before = bytes_checksum(&room[0..w]);
     let mut out = [0i64; 64];
-    exports::mnemathor_index(&stars[0..s], floor, &mut room[0..w], &mut out);
+    exports_index::mnemathor_index(&stars[0..s], floor, &mut room[0..w], &mut out);
     print_call(10, &out, 3);
     print_more(before);
     print_more(bytes_checksum(&room[0..w]));
@@ -220,7 +220,15 @@ fn print_ranking_by_index(
 ) {
     let before = checksum(room);
     let mut out = [0i64; 64];
-    exports::mnemathor_ranking_by_index(directions, stars, index, floor, tolerance, room, &mut out);
+    exports_index::mnemathor_ranking_by_index(
+        directions,
+        stars,
+        index,
+        floor,
+        tolerance,
+        room,
+        &mut out,
+    );
     print_call(11, &out, 2);
     print_more(before);
     print_more(checksum(room));
@@ -268,7 +276,7 @@ fn print_chain_by_index(
 ) {
     let before = checksum(room);
     let mut out = [0i64; 64];
-    exports::mnemathor_chain_by_index(
+    exports_index::mnemathor_chain_by_index(
         samples,
         width,
         height,

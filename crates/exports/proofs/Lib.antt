@@ -1,2 +1,0 @@
--- Laws that the exported functions' proofs share. Assumes nothing.
-pub mod Handed

@@ -1,0 +1,2 @@
+-- The numbers that the whole chain hands over. Assumes nothing.
+pub mod Chain

@@ -1,0 +1,5 @@
+-- The numbers that the stars' calls hand over. Assumes nothing.
+pub mod Direction
+pub mod Catalogue
+pub mod Search
+pub mod Attitude

@@ -1,0 +1,101 @@
+// The C interface of the stars' calls: a position's direction, the catalogue's check, the ranking, the search, and the attitude.
+mod answers;
+
+use vectors::Vec3;
+ghost use mathlib.Core.Path.{_≡_};
+ghost use Prim.Native.Nat.{_+_, _≤_};
+ghost use lib.ListN.{length};
+ghost use Rattle.direction.specs.Direction.{directionOf};
+ghost use Rattle.direction.specs.ListLaws.{directionsIn};
+ghost use Rattle.catalogue.specs.Format.{recordsIn};
+ghost use Rattle.catalogue.specs.Check.{checkedOf};
+ghost use Rattle.ranking.specs.Room.{rankOutcomeOf, roomAfter};
+ghost use Rattle.search.specs.Identified.{identificationOf};
+ghost use Rattle.handover.specs.Room.{handedOver};
+ghost use Rattle.handover.specs.Numbers.{rankingNumbers};
+ghost use Rattle.exports_stars.specs.Direction.{directionNumbers};
+ghost use Rattle.exports_stars.specs.Catalogue.{catalogueNumbers};
+ghost use Rattle.exports_stars.specs.Search.{searchNumbers};
+ghost use Rattle.exports_stars.specs.Attitude.{vectorAt, attitudeHanded};
+
+// The direction of a position.
+#[no_mangle]
+pub extern "C" fn mnemathor_direction(cx: i64, cy: i64, f: i64, x: i64, y: i64, out: &mut [i64])
+    ensures { λ _. ⌜ now (out .exit) ≡ handedOver (directionNumbers (directionOf cx cy f x y)) (now (out .entry)) ⌝ }
+{
+    handover::hand_over(
+        out,
+        answers::of_direction(direction::direction_of(cx, cy, f, x, y)),
+    );
+}
+
+// How many records a catalogue has.
+#[no_mangle]
+pub extern "C" fn mnemathor_catalogue(bytes: &[u8], out: &mut [i64])
+    ensures { λ _. ⌜ now (out .exit) ≡ handedOver (catalogueNumbers (checkedOf (now (bytes .entry)))) (now (out .entry)) ⌝ }
+{
+    handover::hand_over(out, answers::of_catalogue(catalogue::check(bytes)));
+}
+
+// The ranking of a catalogue's stars for each direction, written into the room.
+#[no_mangle]
+pub extern "C" fn mnemathor_ranking(
+    directions: &[i32],
+    catalogue: &[u8],
+    tolerance: u64,
+    room: &mut [u16],
+    out: &mut [i64],
+)
+    ensures { λ _. ⌜ now (room .exit) ≡ roomAfter (now (directions .entry)) (now (catalogue .entry)) tolerance (now (room .entry)) ⌝ }
+    ensures { λ _. ⌜ now (out .exit) ≡ handedOver (rankingNumbers (rankOutcomeOf (now (directions .entry)) (now (catalogue .entry)) tolerance (now (room .entry)))) (now (out .entry)) ⌝ }
+{
+    let outcome = ranking::rank(directions, catalogue, tolerance, room);
+    handover::hand_over(out, handover::of_ranking(outcome));
+}
+
+// Which star each direction is, by a ranking that is handed in.
+#[no_mangle]
+pub extern "C" fn mnemathor_search(
+    directions: &[i32],
+    catalogue: &[u8],
+    needed: usize,
+    tolerance: u64,
+    ranking: &[u16],
+    out: &mut [i64],
+)
+    ensures { λ _. ⌜ now (out .exit) ≡ handedOver (searchNumbers (directionsIn (now (directions .entry))) (recordsIn (now (catalogue .entry))) (identificationOf (now (directions .entry)) (now (catalogue .entry)) needed tolerance (now (ranking .entry)))) (now (out .entry)) ⌝ }
+{
+    let identification = search::search(directions, catalogue, needed, tolerance, ranking);
+    let stars = catalogue::records(catalogue);
+    handover::hand_over(
+        out,
+        answers::of_search(identification, directions.len() / 3, stars),
+    );
+}
+
+// Three numbers from a place on.
+fn vector_at(numbers: &[i64], i: usize) -> Vec3
+    requires { ⌜ i + 3 ≤ length (now numbers) ⌝ }
+    ensures { λ r. ⌜ r ≡ vectorAt (now (numbers .entry)) i ⌝ }
+{
+    Vec3 {
+        x: numbers[i],
+        y: numbers[i + 1],
+        z: numbers[i + 2],
+    }
+}
+
+// The attitude of four vectors, three numbers each: camera v1 and v2, star v1 and v2. Of another count of numbers nothing is done.
+#[no_mangle]
+pub extern "C" fn mnemathor_attitude(vectors: &[i64], out: &mut [i64])
+    ensures { λ _. ⌜ now (out .exit) ≡ attitudeHanded (now (vectors .entry)) (now (out .entry)) ⌝ }
+{
+    if vectors.len() != 12 {
+        return;
+    }
+    let v1 = vector_at(vectors, 0);
+    let v2 = vector_at(vectors, 3);
+    let w1 = vector_at(vectors, 6);
+    let w2 = vector_at(vectors, 9);
+    handover::hand_over(out, answers::of_attitude(attitude::triad(v1, v2, w1, w2)));
+}
