@@ -1,13 +1,14 @@
 -- What the builder of an index answers, and what becomes of the room. Assumes nothing.
-use mathlib.Core.Bool.{Bool, cond}
+use mathlib.Core.Bool.{Bool, cond, not}
 use mathlib.Core.List.{List, [], _∷_, _++_}
 use Prim.Native.Nat.{ℕ, _*_}
 use lib.Dec.{ltb}
-use lib.IntN.{ℤ}
+use lib.IntN.{ℤ, pos}
 use lib.ListN.{length, drop}
 use Rattle.refusal.specs.declared.Refusal.{Refusal}
 use Rattle.refusal.specs.Numbers as number
 use Rattle.refusal.specs.Table.{Row, row, lowest, answered}
+use Rattle.refusal.specs.Answer.{Answer, refusedWith, acceptedWith}
 use Rattle.catalogue.specs.Check as catalogue
 use Rattle.catalogue.specs.Stars.{starsOf}
 use Rattle.index.specs.declared.Built.{Built}
@@ -39,3 +40,17 @@ builtFrom stars floor size =
 unfoldable pub roomFrom : List ℤ → ℤ → List ℕ → List ℕ
 roomFrom stars floor room =
     cond (roomShort stars floor (length room)) room (indexOf stars floor ++ drop (length (indexOf stars floor)) room)
+
+-- ---- in document 01's own terms
+
+abbrev pub answerOf : Built → Answer
+answerOf (Refused r) = refusedWith (r .number) (r .place)
+answerOf (Records n) = acceptedWith (pos n ∷ [])
+
+-- the answer that a catalogue, a floor and a room of so many bytes must have
+abbrev pub answerFor : List ℕ → ℤ → ℕ → Answer
+answerFor bytes floor size =
+    cond (not (catalogue.lengthOk (length bytes))) (refusedWith 6 0)
+    (cond (catalogue.recordBroken bytes) (refusedWith 7 (catalogue.brokenOf bytes))
+    (cond (roomShort (starsOf bytes) floor size) (refusedWith 16 0)
+    (acceptedWith (pos (length (keysOf (starsOf bytes) floor)) ∷ []))))

@@ -13,6 +13,7 @@ use Rattle.refusal.specs.declared.Refusal.{Refusal}
 use Rattle.refusal.specs.Numbers as number
 use Rattle.refusal.specs.Table.{row, lowest, answered}
 use Rattle.refusal.specs.Laws.{lowest-append, lowest-here, lowest-next}
+use Rattle.refusal.specs.AnswerLaws.{answerBy, answered-by}
 use Rattle.catalogue.specs.Check as catalogue
 use Rattle.catalogue.specs.CheckLaws.{valid-accepted}
 use Rattle.catalogue.specs.Stars.{starsOf}
@@ -23,7 +24,7 @@ use Rattle.index_records.specs.FormatLaws.{encoded-length}
 use Rattle.index.specs.declared.Built.{Built}
 use Rattle.index.specs.declared.Built.the-variants.{Refused, Records}
 use Rattle.index.specs.Index.{keysOf, indexOf}
-use Rattle.index.specs.Build.{roomShort, refusalsOf, builtOf, roomAfter, builtFrom, roomFrom}
+use Rattle.index.specs.Build.{roomShort, refusalsOf, builtOf, roomAfter, builtFrom, roomFrom, answerOf, answerFor}
 
 pub index-length : (stars : List ℤ) (floor : ℤ) → length (indexOf stars floor) ≡ 12 * length (keysOf stars floor)
 unfolding indexOf
@@ -68,6 +69,11 @@ module _ (bytes : List ℕ) (floor : ℤ) where
   joined size e =
       lowest-append (catalogue.refusalsOf bytes) (row (roomShort (starsOf bytes) floor size) number.indexRoom ∷ [])
       ∙ ap (answered Outcome.Refused (lowest (row (roomShort (starsOf bytes) floor size) number.indexRoom ∷ []))) e
+
+  -- the answer in document 01's terms
+  pub answers : (size : ℕ) → answerOf (builtOf bytes floor size) ≡ answerFor bytes floor size
+  unfolding builtOf refusalsOf catalogue.refusalsOf answerBy
+  answers size = answered-by Refused (Records (length (keysOf (starsOf bytes) floor))) answerOf _ (λ r. refl) refl (refusalsOf bytes floor size)
 
   -- the catalogue is refused
   pub catalogue-refused : (r : Refusal) (size : ℕ) → lowest (catalogue.refusalsOf bytes) ≡ Outcome.Refused r → builtOf bytes floor size ≡ Refused r

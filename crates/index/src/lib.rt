@@ -13,7 +13,7 @@ ghost use lib.ListN.{length, drop};
 ghost use Rattle.vectors.specs.Triples.{triples, Listed};
 ghost use Rattle.index.specs.Index.{keysOf, indexOf};
 ghost use Rattle.index.specs.Check.{isIndex};
-ghost use Rattle.index.specs.Build.{builtFrom, roomFrom, builtOf, roomAfter};
+ghost use Rattle.index.specs.Build.{builtFrom, roomFrom, builtOf, roomAfter, answerOf, answerFor};
 
 // What the builder of an index gives.
 pub enum Built {
@@ -64,6 +64,7 @@ fn build_from(stars: &[i32], floor: i64, room: &mut [u8]) -> Built
 pub fn build(catalogue: &[u8], floor: i64, room: &mut [u8]) -> Built
     ensures { λ r. ⌜ r ≡ builtOf (now (catalogue .entry)) floor (length (now (room .entry))) ⌝ }
     ensures { λ r. ⌜ now (room .exit) ≡ roomAfter (now (catalogue .entry)) floor (now (room .entry)) ⌝ }
+    ensures { λ r. ⌜ answerOf r ≡ answerFor (now (catalogue .entry)) floor (length (now (room .entry))) ⌝ }
 {
     let checked = catalogue::check(catalogue);
     match checked {

@@ -1,5 +1,5 @@
 -- The call that ranks with an index: its refusals, what it answers, and what becomes of the room. Assumes nothing.
-use mathlib.Core.Bool.{not}
+use mathlib.Core.Bool.{cond, not}
 use mathlib.Core.List.{List, [], _∷_, _++_}
 use Prim.Native.Nat.{ℕ}
 use lib.IntN.{ℤ}
@@ -7,10 +7,13 @@ use lib.ListN.{length}
 use Rattle.refusal.specs.declared.Outcome.{Outcome}
 use Rattle.refusal.specs.Numbers as number
 use Rattle.refusal.specs.Table.{Row, row, lowest, answered}
+use Rattle.refusal.specs.Answer.{Answer, refusedWith, acceptedWith}
+use Rattle.direction.specs.List.{listOk}
+use Rattle.direction.specs.ListLaws.{directionsIn}
 use Rattle.catalogue.specs.Format.{recordsIn}
 use Rattle.catalogue.specs.Check as catalogue
 use Rattle.catalogue.specs.Stars.{starsOf}
-use Rattle.ranking.specs.Refusals.{rowsBeside}
+use Rattle.ranking.specs.Refusals.{toleranceOk, roomShort, rowsBeside}
 use Rattle.ranking.specs.Room as plain
 use Rattle.index.specs.Check.{isIndex}
 
@@ -43,3 +46,14 @@ outcomeOf c = lowest (refusalsOf c)
 -- an accepted call leaves what the ranking by the plain rule leaves; a refusal changes no word
 unfoldable pub roomAfter : Call → List ℕ
 roomAfter c = answered (λ _. c .room) (plain.roomAfter (c .directions) (c .catalogue) (c .tolerance) (c .room)) (outcomeOf c)
+
+-- the same in document 01's own terms: the room is the answer, and no value beside it
+abbrev pub answerFor : Call → Answer
+answerFor c =
+    cond (not (catalogue.lengthOk (length (c .catalogue)))) (refusedWith 6 0)
+    (cond (catalogue.recordBroken (c .catalogue)) (refusedWith 7 (catalogue.brokenOf (c .catalogue)))
+    (cond (not (isIndex (starsOf (c .catalogue)) (c .floor) (c .index))) (refusedWith 17 0)
+    (cond (not (listOk (c .directions))) (refusedWith 8 0)
+    (cond (not (toleranceOk (c .tolerance))) (refusedWith 9 0)
+    (cond (roomShort (directionsIn (c .directions)) (recordsIn (c .catalogue)) (length (c .room))) (refusedWith 10 0)
+    (acceptedWith []))))))

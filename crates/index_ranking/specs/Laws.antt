@@ -10,6 +10,8 @@ use Rattle.refusal.specs.declared.Outcome.{Outcome}
 use Rattle.refusal.specs.declared.Outcome.the-variants.{Accepted, Refused}
 use Rattle.refusal.specs.Numbers as number
 use Rattle.refusal.specs.Table.{refusalOf, lowest, answered, otherwise}
+use Rattle.refusal.specs.Answer.{answerOf}
+use Rattle.refusal.specs.AnswerLaws.{answerBy, outcome-by}
 use Rattle.catalogue.specs.Format.{recordsIn}
 use Rattle.catalogue.specs.Check as catalogue
 use Rattle.catalogue.specs.CheckLaws.{accepted-valid, valid-accepted}
@@ -18,6 +20,7 @@ use Rattle.catalogue.specs.Valid.{Valid}
 use Rattle.catalogue.specs.ValidStars.{valid-length}
 use Rattle.vectors.specs.Triples.{triples}
 use Rattle.ranking.specs.Ranking.{rankingOf}
+use Rattle.ranking.specs.Refusals.{rowsBeside}
 use Rattle.ranking.specs.RefusalSteps as plain-steps
 use Rattle.ranking.specs.Room as plain
 use Rattle.ranking.specs.Room.{rankOutcomeOf}
@@ -25,7 +28,7 @@ use Rattle.ranking.specs.RoomLaws as plain-laws
 use Rattle.index.specs.Index.{indexOf}
 use Rattle.index.specs.Check.{isIndex}
 use Rattle.index.specs.CheckLaws.{is-index, index-true, no-index}
-use Rattle.index_ranking.specs.Call.{Call, outcomeOf, roomAfter}
+use Rattle.index_ranking.specs.Call.{Call, rowsBehind, refusalsOf, outcomeOf, roomAfter, answerFor}
 use Rattle.index_ranking.specs.Stars.{roomFrom}
 use Rattle.index_ranking.specs.Steps.{wrong-index, right-index, joined, refused-room, valid-outcome, written-from, refused-from}
 
@@ -38,6 +41,11 @@ module _ (c : Call) where
 
   abbrev plainRoom : List ℕ
   plainRoom = plain.roomAfter (c .directions) (c .catalogue) (c .tolerance) (c .room)
+
+  -- the outcome in document 01's terms
+  pub answers : answerOf (outcomeOf c) ≡ answerFor c
+  unfolding outcomeOf refusalsOf rowsBehind rowsBeside catalogue.refusalsOf answerBy
+  answers = outcome-by (refusalsOf c)
 
   -- ---- the right index
 

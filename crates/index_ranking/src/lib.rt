@@ -5,10 +5,11 @@ ghost use mathlib.Core.Path.{_≡_};
 ghost use mathlib.Core.List.{_++_};
 ghost use Prim.Native.Nat.{_*_, _<_, _≤_};
 ghost use lib.ListN.{length, drop};
+ghost use Rattle.refusal.specs.Answer.{answerOf};
 ghost use Rattle.vectors.specs.Triples.{triples, Listed};
 ghost use Rattle.ranking.specs.Ranking.{rowOf, rankingOf};
 ghost use Rattle.index.specs.Index.{bytesFrom};
-ghost use Rattle.index_ranking.specs.Call.{call, outcomeOf, roomAfter};
+ghost use Rattle.index_ranking.specs.Call.{call, outcomeOf, roomAfter, answerFor};
 ghost use Rattle.index_ranking.specs.Stars.{outcomeFrom, roomFrom};
 
 // One row: the votes for direction i are collected with the index, whose floor is moved up by 2^63, and the stars ranked by them.
@@ -106,6 +107,7 @@ pub fn rank(
 ) -> Outcome
     ensures { λ r. ⌜ r ≡ outcomeOf (call (now (directions .entry)) (now (catalogue .entry)) (now (index .entry)) floor tolerance (now (room .entry))) ⌝ }
     ensures { λ r. ⌜ now (room .exit) ≡ roomAfter (call (now (directions .entry)) (now (catalogue .entry)) (now (index .entry)) floor tolerance (now (room .entry))) ⌝ }
+    ensures { λ r. ⌜ answerOf r ≡ answerFor (call (now (directions .entry)) (now (catalogue .entry)) (now (index .entry)) floor tolerance (now (room .entry))) ⌝ }
 {
     let checked = catalogue::check(catalogue);
     match checked {

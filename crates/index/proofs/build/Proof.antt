@@ -1,7 +1,9 @@
 -- `index::build` meets its contract: the catalogue's refusal, or what its stars give. Assumes nothing.
-use mathlib.Core.Path.{_≡_, sym, subst, _∙_}
-use Prim.Native.Nat.{_*_, _≤_}
+use mathlib.Core.Path.{_≡_, sym, ap, subst, _∙_}
+use mathlib.Core.List.{List}
+use Prim.Native.Nat.{ℕ, _*_, _≤_}
 use native.Mathlib.Omega.{arith}
+use lib.IntN.{ℤ}
 use lib.ListN.{length, take}
 use lib.Seq.{length-take-le}
 use mir.Syntax.{w64}
@@ -12,8 +14,9 @@ use Rattle.catalogue.specs.Valid.{Valid}
 use Rattle.catalogue.specs.CheckLaws.{checked-refused, checked-valid}
 use Rattle.catalogue.specs.Lent.{lent-within, lent-stars}
 use Rattle.vectors.specs.Triples.{Listed}
-use Rattle.index.specs.Build.{builtFrom, roomFrom}
-use Rattle.index.specs.BuildLaws.{catalogue-refused, catalogue-kept, valid-listed, valid-built, valid-room}
+use Rattle.index.specs.declared.Built.{Built}
+use Rattle.index.specs.Build.{builtFrom, roomFrom, builtOf, roomAfter, answerOf, answerFor}
+use Rattle.index.specs.BuildLaws.{answers, catalogue-refused, catalogue-kept, valid-listed, valid-built, valid-room}
 use borrow.Author.Needs.{needs}
 use Rattle.index.proofs.build.Statement.{statement}
 use Rattle.index.proofs.build.Tie as tie
@@ -57,11 +60,17 @@ slice-aggregate-build-from c = sym (length-take-le _ _ (fits (c .before)))
 build-from-requires : tie.Need-build-from-requires
 build-from-requires c κs = let t = c .before .before in subst (Listed 512) (sym (lent t)) (valid-listed _ (valid (t .before) .0))
 
+-- the answer in document 01's terms follows from what was built
+in-terms : (bytes : List ℕ) (floor : ℤ) (before : List ℕ) {b : Built} {room : List ℕ}
+    → b ≡ builtOf bytes floor (length before) → room ≡ roomAfter bytes floor before
+    → (b ≡ builtOf bytes floor (length before)) × ((room ≡ roomAfter bytes floor before) × (answerOf b ≡ answerFor bytes floor (length before)))
+in-terms bytes floor before e f = (e, (f, ap (λ (b : Built). answerOf b) e ∙ answers bytes floor (length before)))
+
 returns : tie.Need-returns
 returns c =
     let x = c .before .before .before .before .before .before .args in
     let e = checked-refused _ _ (sym (c .before .before .before .check .ensures .0) ∙ c .before .checked .given .1) in
-    (sym (catalogue-refused (x .catalogue .now) (x .floor) _ (length (x .room .now)) e), sym (catalogue-kept (x .catalogue .now) (x .floor) _ (x .room .now) e))
+    in-terms (x .catalogue .now) (x .floor) (x .room .now) (sym (catalogue-refused (x .catalogue .now) (x .floor) _ (length (x .room .now)) e)) (sym (catalogue-kept (x .catalogue .now) (x .floor) _ (x .room .now) e))
 
 same-length : tie.Need-same-length
 same-length c = search needs
@@ -73,10 +82,10 @@ returns-2 c =
     let s = start (t .before) in
     let x = s .args in
     let v = valid (t .before) .0 in
-    let f = toZ-ofZ w64 (x .floor) (s .fits .floor) in (
-      w .build-from .ensures .0 ∙ (λ i. builtFrom (lent t i) (f i) (length (x .room .now))) ∙ sym (valid-built (x .catalogue .now) (x .floor) v (length (x .room .now))),
-      w .build-from .ensures .1 ∙ (λ i. roomFrom (lent t i) (f i) (x .room .now)) ∙ sym (valid-room (x .catalogue .now) (x .floor) v (x .room .now)),
-    )
+    let f = toZ-ofZ w64 (x .floor) (s .fits .floor) in
+    in-terms (x .catalogue .now) (x .floor) (x .room .now)
+    (w .build-from .ensures .0 ∙ (λ i. builtFrom (lent t i) (f i) (length (x .room .now))) ∙ sym (valid-built (x .catalogue .now) (x .floor) v (length (x .room .now))))
+    (w .build-from .ensures .1 ∙ (λ i. roomFrom (lent t i) (f i) (x .room .now)) ∙ sym (valid-room (x .catalogue .now) (x .floor) v (x .room .now)))
 
 pub build-spec : {M : Type 1} → statement M
 build-spec =

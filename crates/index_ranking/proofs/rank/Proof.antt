@@ -1,11 +1,14 @@
 -- `index_ranking::rank` meets its contract: the catalogue's refusal, or what its stars give. Assumes nothing.
-use mathlib.Core.Path.{_≡_, sym, subst, _∙_}
-use Prim.Native.Nat.{_*_, _≤_}
+use mathlib.Core.Path.{_≡_, sym, ap, subst, _∙_}
+use mathlib.Core.List.{List}
+use Prim.Native.Nat.{ℕ, _*_, _≤_}
 use native.Mathlib.Omega.{arith}
 use lib.ListN.{length, take}
 use lib.Seq.{length-take-le}
 use mir.Syntax.{w64}
 use mir.ValLaws.{toZ-ofZ}
+use Rattle.refusal.specs.declared.Outcome.{Outcome}
+use Rattle.refusal.specs.Answer.{answerOf}
 use Rattle.catalogue.specs.Format.{recordsIn}
 use Rattle.catalogue.specs.Stars.{starsOf}
 use Rattle.catalogue.specs.Valid.{Valid}
@@ -13,10 +16,10 @@ use Rattle.catalogue.specs.CheckLaws.{checked-refused, checked-valid}
 use Rattle.catalogue.specs.Lent.{lent-within, lent-stars}
 use Rattle.vectors.specs.Triples.{Listed}
 use Rattle.index.specs.BuildLaws.{valid-listed}
-use Rattle.index_ranking.specs.Call.{Call, call}
+use Rattle.index_ranking.specs.Call.{Call, call, outcomeOf, roomAfter, answerFor}
 use Rattle.index_ranking.specs.Stars.{outcomeFrom, roomFrom}
 use Rattle.index_ranking.specs.Steps.{joined, refused-room, valid-outcome}
-use Rattle.index_ranking.specs.Laws.{valid-room}
+use Rattle.index_ranking.specs.Laws.{answers, valid-room}
 use borrow.Author.Needs.{needs}
 use Rattle.index_ranking.proofs.rank.Statement.{statement}
 use Rattle.index_ranking.proofs.rank.Tie as tie
@@ -63,11 +66,15 @@ slice-aggregate-rank-from c = sym (length-take-le _ _ (fits (c .before)))
 rank-from-requires : tie.Need-rank-from-requires
 rank-from-requires c κs = let t = c .before .before in subst (Listed 512) (sym (lent t)) (valid-listed _ (valid (t .before) .0))
 
+-- the answer in document 01's terms follows from the outcome
+in-terms : (c : Call) {o : Outcome} {room : List ℕ} → o ≡ outcomeOf c → room ≡ roomAfter c → (o ≡ outcomeOf c) × ((room ≡ roomAfter c) × (answerOf o ≡ answerFor c))
+in-terms c e f = (e, (f, ap (λ (o : Outcome). answerOf o) e ∙ answers c))
+
 returns : tie.Need-returns
 returns c =
     let s = c .before .before .before .before .before .before .before in
     let e = joined (whole s) (checked-refused _ _ (sym (c .before .before .before .check .ensures .0) ∙ c .before .checked .given .1)) in
-    (sym e, sym (refused-room (whole s) _ e))
+    in-terms (whole s) (sym e) (sym (refused-room (whole s) _ e))
 
 same-length : tie.Need-same-length
 same-length c = search needs
@@ -79,10 +86,10 @@ returns-2 c =
     let s = start (t .before) in
     let x = s .args in
     let v = valid (t .before) .0 in
-    let f = toZ-ofZ w64 (x .floor) (s .fits .floor) in (
-      w .rank-from .ensures .0 ∙ (λ i. outcomeFrom (x .directions .now) (lent t i) (x .index .now) (f i) (x .tolerance) (length (x .room .now))) ∙ sym (valid-outcome (whole s) v),
-      w .rank-from .ensures .1 ∙ (λ i. roomFrom (x .directions .now) (lent t i) (x .index .now) (f i) (x .tolerance) (x .room .now)) ∙ sym (valid-room (whole s) v),
-    )
+    let f = toZ-ofZ w64 (x .floor) (s .fits .floor) in
+    in-terms (whole s)
+    (w .rank-from .ensures .0 ∙ (λ i. outcomeFrom (x .directions .now) (lent t i) (x .index .now) (f i) (x .tolerance) (length (x .room .now))) ∙ sym (valid-outcome (whole s) v))
+    (w .rank-from .ensures .1 ∙ (λ i. roomFrom (x .directions .now) (lent t i) (x .index .now) (f i) (x .tolerance) (x .room .now)) ∙ sym (valid-room (whole s) v))
 
 pub rank-spec : {M : Type 1} → statement M
 rank-spec =
