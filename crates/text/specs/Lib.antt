@@ -4,6 +4,8 @@ pub mod Decimal
 pub mod Parse
 pub mod DecimalLaws
 pub mod ParseLaws
+pub mod Sign
+pub mod SignLaws
 pub mod Written
 pub mod WrittenLaws
 pub mod Room

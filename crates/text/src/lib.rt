@@ -1,10 +1,13 @@
 // Lines of text as bytes in a lent room: words and numbers in decimal, one behind the other. A place is handed in and the next one comes back, so a line is a
-// run of calls. What does not fit is cut at the room's end. And the way back: a word as a number.
+// run of calls. What does not fit is cut at the room's end. And the way back: a word as a number, with a sign or without.
 mod parse;
+mod sign;
 
 pub use parse::Parsed;
 pub use parse::parse_number;
 use refusal::Refusal;
+pub use sign::Signed;
+pub use sign::parse_signed;
 ghost use mathlib.Core.List.{[], _∷_, _++_};
 ghost use Prim.Native.Nat.{_+_, _≤_};
 ghost use lib.ListN.{length};
