@@ -31,7 +31,7 @@ returns c =
     let s = b .before .before .before .before in
     let a = s .args in
     let f = back (param (s .fits .floor)) in (
-      b .build .ensures .1 ∙ ap (λ (g : ℤ). roomAfter (a .catalogue .now) g (a .room .now)) f,
+      b .build .ensures .1 .0 ∙ ap (λ (g : ℤ). roomAfter (a .catalogue .now) g (a .room .now)) f,
       handed indexNumbers _ (c .before .hand-over .ensures) (c .before .before .of-index .ensures)
           (b .build .ensures .0 ∙ ap (λ (g : ℤ). builtOf (a .catalogue .now) g (length (a .room .now))) f),
     )

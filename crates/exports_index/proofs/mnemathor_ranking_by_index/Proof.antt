@@ -30,7 +30,7 @@ returns c =
     let s = r .before .before .before .before .before in
     let a = s .args in
     let f = back (param (s .fits .floor)) in (
-      r .rank .ensures .1 ∙ ap (λ (g : ℤ). roomAfter (call (a .directions .now) (a .catalogue .now) (a .index .now) g (a .tolerance) (a .room .now))) f,
+      r .rank .ensures .1 .0 ∙ ap (λ (g : ℤ). roomAfter (call (a .directions .now) (a .catalogue .now) (a .index .now) g (a .tolerance) (a .room .now))) f,
       handed rankingNumbers _ (c .before .hand-over .ensures) (c .before .before .of-ranking .ensures)
           (r .rank .ensures .0 ∙ ap (λ (g : ℤ). outcomeOf (call (a .directions .now) (a .catalogue .now) (a .index .now) g (a .tolerance) (a .room .now))) f),
     )

@@ -42,7 +42,7 @@ room-is k =
     let s = start (sighted k) in
     let a = s .args in
     let f = toZ-ofZ w64 (a .floor) (s .fits .floor) in
-    k .rank .ensures .1
+    k .rank .ensures .1 .0
     ∙ (λ i. roomAfter (call (front (sighted k) i) (a .bytes .now) (a .index .now) (f i) (a .settings .tolerance) (a .room .now)))
     ∙ right-room (call (sightsOf (a .report) (a .bytes .now) (a .settings)) (a .bytes .now) (a .index .now) (a .floor) (a .settings .tolerance) (a .room .now)) (s .pre .1)
     ∙ laws.room-ranked _ _ _ _ (s .pre .0)
