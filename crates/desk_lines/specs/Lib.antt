@@ -1,2 +1,4 @@
--- The definitions that the contracts of `desk_lines` cite.
+-- The definitions that the contracts of `desk_lines` cite, and a law.
 pub mod Why
+pub mod Pairs
+pub mod PairsLaws
