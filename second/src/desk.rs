@@ -2,7 +2,7 @@
 
 use crate::answer::{Reason, Refusal, Side};
 use crate::listing::refused;
-use crate::{files, frame};
+use crate::{files, frame, index};
 
 /// The line that says why the pixel is a star or none, for the contents of settings.bin and frame.bin.
 pub fn why(settings: &[u8], frame: &[u8], row: u64, column: u64) -> String {
@@ -32,5 +32,18 @@ fn side_name(side: Side) -> &'static str {
         Side::Right => "right",
         Side::Top => "top",
         Side::Bottom => "bottom",
+    }
+}
+
+/// The line about a catalogue's index, and the index where there is one.
+pub fn index(catalogue: &[u8], floor: i64) -> (String, Option<Vec<u8>>) {
+    // Room for every pair of 512 stars.
+    let mut room = vec![0; index::RECORD_BYTES * 512 * 511 / 2];
+    match index::index(catalogue, floor.into(), &mut room) {
+        Ok(records) => {
+            room.truncate(index::RECORD_BYTES * records);
+            (format!("records {records}\n"), Some(room))
+        }
+        Err(refusal) => (refused(refusal), None),
     }
 }

@@ -1,6 +1,6 @@
 //! The desk's lines: each kind of reason, worked out by hand, and the refusals.
 
-use second::desk::why;
+use second::desk::{index, why};
 
 /// The settings of a frame of this size with threshold 50; the desk looks at nothing else.
 fn settings(width: u16, height: u16, threshold: u16) -> Vec<u8> {
@@ -87,4 +87,28 @@ fn refusals() {
     assert_eq!(line(&[], 12, 0), "refused 15 0\n");
     assert_eq!(line(&[], 0, 20), "refused 15 0\n");
     assert_eq!(line(&[], u64::MAX, u64::MAX), "refused 15 0\n");
+}
+
+/// A catalogue of these directions, with the identities 1, 2 and so on.
+fn catalogue(stars: &[[i32; 3]]) -> Vec<u8> {
+    let record = |(i, star): (usize, &[i32; 3])| {
+        let identity = (i as u32 + 1).to_be_bytes();
+        [identity, star[0].to_be_bytes(), star[1].to_be_bytes(), star[2].to_be_bytes()].concat()
+    };
+    stars.iter().enumerate().flat_map(record).collect()
+}
+
+#[test]
+fn index_gives_its_number_of_records() {
+    let one = 1_000_000_000;
+    let stars = catalogue(&[[one, 0, 0], [0, one, 0], [-one, 0, 0]]);
+    let least: i64 = -1_000_000_000_000_000_000;
+    let first = [&least.to_be_bytes()[..], &[0, 0, 0, 2]].concat();
+    let (line, bytes) = index(&stars, least);
+    assert_eq!((&line[..], &bytes.unwrap()[..12]), ("records 3\n", &first[..]));
+    assert_eq!(index(&stars, least + 1).0, "records 2\n");
+    assert_eq!(index(&stars, i64::MIN).0, "records 3\n");
+    assert_eq!(index(&stars, i64::MAX), ("records 0\n".into(), Some(vec![])));
+    assert_eq!(index(&[], 0), ("refused 6 0\n".into(), None));
+    assert_eq!(index(&catalogue(&[[one, 0, 0], [one, one, 0]]), 0), ("refused 7 1\n".into(), None));
 }

@@ -8,13 +8,17 @@ use second::generate::{index_bytes, lend_index};
 
 const TOLERANCE: u64 = 100_000_000_000_000;
 
-/// The ranking with a narrow tolerance, plain and by index, and the chain by index.
+/// The index built, its test, the ranking with a narrow tolerance, plain and by index, and the chain by index.
 pub fn inputs(ranking: &Call, chain: &Call) -> Vec<(&'static str, Call)> {
     let ranking = Call { tolerance: TOLERANCE, ..ranking.clone() };
+    let ranking_by_index = by_index(&ranking, &given_directions(&ranking));
+    // Without directions nothing is left but the test.
+    let test = Call { directions: Buffer::repeat(0, &[0]), ..ranking_by_index.clone() };
     vec![
         ("index, 512 stars, every pair", build(&ranking)),
+        ("test of the index, the same", test),
         ("ranking, the same, T 10^14", ranking.clone()),
-        ("ranking by index, the same, T 10^14", by_index(&ranking, &given_directions(&ranking))),
+        ("ranking by index, the same, T 10^14", ranking_by_index),
         ("chain by index, the same star field", by_index(chain, &seen_directions(chain))),
     ]
 }
