@@ -1,8 +1,9 @@
-// The desk: what people on the ground ask of the files in the current folder, one subcommand each. Wrong words get a line of usage on standard error and
-// nothing on standard output, by which the script `mnemathor` tells them from an answer.
+// The desk: what people on the ground ask of files, one subcommand each. Wrong words get a line on standard error and nothing on standard output, by which
+// the script `mnemathor` tells them from an answer.
 use libc::STDERR_FILENO;
 use libc::STDOUT_FILENO;
 use text::Parsed;
+use text::Signed;
 ghost use Rattle.io.specs.Counts.{Counts};
 
 // Each buffer has room for one byte more than its file may have, so that a file that is too long is seen to be.
@@ -10,8 +11,23 @@ const SETTINGS_ROOM: usize = 33;
 
 const FRAME_ROOM: usize = 64001;
 
-fn usage() {
+const CATALOGUE_ROOM: usize = 8193;
+
+// An index of 512 stars has 130,816 records at most.
+const INDEX_ROOM: usize = 1569792;
+
+// No path is longer.
+const PATH_ROOM: usize = 4096;
+
+fn why_usage() {
     io::write_all(STDERR_FILENO, b"usage: ./mnemathor why FOLDER ROW COLUMN\n");
+}
+
+fn index_usage() {
+    io::write_all(
+        STDERR_FILENO,
+        b"usage: ./mnemathor index CATALOGUE FLOOR OUT\n",
+    );
 }
 
 // Writes an answer out. A program has no exit status of its own, so a write that failed is told on standard error.
@@ -46,6 +62,12 @@ fn number(i: usize) -> Parsed {
     text::parse_number(&buffer[..n])
 }
 
+fn signed(i: usize) -> Signed {
+    let mut buffer = [0u8; 4096];
+    let n = os::arg(i, &mut buffer);
+    text::parse_signed(&buffer[..n])
+}
+
 // Why the pixel at row, column is not a star.
 fn why(row: usize, column: usize) {
     let mut settings = [0u8; SETTINGS_ROOM];
@@ -60,26 +82,88 @@ fn why(row: usize, column: usize) {
 // why ROW COLUMN
 fn why_words() {
     if os::arg_count() != 4 {
-        usage();
+        why_usage();
         return;
     }
     let row = number(2);
     let column = number(3);
     let Parsed::Number(r) = row else {
-        usage();
+        why_usage();
         return;
     };
     let Parsed::Number(c) = column else {
-        usage();
+        why_usage();
         return;
     };
     why(r, c);
 }
 
-fn main() {
-    if word_is(1, b"why") {
-        why_words();
+// Makes the file, which must not be there, and puts the bytes into it. A write that failed is told by a line of its own, of which the script makes a status,
+// and leaves no file.
+fn save(name: &[u8], bytes: &[u8], answer: &[u8]) {
+    let fd = os::create(name);
+    if fd < 0 {
+        os::fail(name);
         return;
     }
-    usage();
+    let whole = io::write_all(fd, bytes);
+    let closed = libc::close(fd);
+    if whole && closed == 0 {
+        show(answer);
+        return;
+    }
+    os::unlink(name);
+    show(b"not written\n");
+}
+
+// Saves what was made, under the name that the fourth word gives, or shows why there is nothing.
+fn keep(accepted: bool, index: &[u8], answer: &[u8]) {
+    if !accepted {
+        show(answer);
+        return;
+    }
+    let mut name = [0u8; PATH_ROOM];
+    let n = os::arg(4, &mut name);
+    save(&name[..n], index, answer);
+}
+
+// The index of a catalogue's bytes, made in the lent room.
+fn make(catalogue: &[u8], floor: i64, index: &mut [u8]) {
+    let mut line = [0u8; desk_lines::LINE];
+    let made = desk_lines::index(catalogue, floor, index, &mut line);
+    let bytes = made.bytes;
+    let length = made.line;
+    keep(made.accepted, &index[..bytes], &line[..length]);
+}
+
+// The index of the catalogue that the second word names.
+fn index(floor: i64) {
+    let mut name = [0u8; PATH_ROOM];
+    let n = os::arg(2, &mut name);
+    let mut catalogue = [0u8; CATALOGUE_ROOM];
+    let m = read(&name[..n], &mut catalogue);
+    let mut index = [0u8; INDEX_ROOM];
+    make(&catalogue[..m], floor, &mut index);
+}
+
+// index CATALOGUE FLOOR OUT
+fn index_words() {
+    if os::arg_count() != 5 {
+        index_usage();
+        return;
+    }
+    let floor = signed(3);
+    let Signed::Number(g) = floor else {
+        index_usage();
+        return;
+    };
+    index(g);
+}
+
+fn main() {
+    if word_is(1, b"index") {
+        index_words();
+        return;
+    }
+    why_words();
 }
