@@ -1,12 +1,12 @@
 -- What the move up by 2^63 comes to, and that it keeps the order. Assumes nothing.
 use mathlib.Core.Bool.{Bool, true, false, not}
 use mathlib.Core.Path.{_≡_, refl, sym, ap, subst, _∙_}
-use Prim.Native.Nat.{ℕ, _+_, _-_, _%_, _≤_, _<_}
+use Prim.Native.Nat.{ℕ, suc, _+_, _-_, _%_, _≤_, _<_}
 use native.Mathlib.Decide.{decLe}
 use native.Mathlib.Omega.{arith}
-use borrow.Author.Tests.{ltb-true, ltb-false, leb-true, leb-false, le-leb, lt-leb}
+use borrow.Author.Tests.{ltb-true, ltb-false, leb-true, leb-false, le-leb, lt-leb, le-ltb}
 use lib.Dec.{T, leb}
-use lib.IntN.{ℤ, pos, negsuc, natAbs}
+use lib.IntN.{ℤ, pos, negsuc, natAbs, _+ℤ_}
 use lib.Signed.{ltZ, leZ, _≤ℤ_, _<ℤ_, ltZ-yes, ltZ-no, clashℤ}
 use mir.Syntax.{w64}
 use mir.Val.{SFits, ofZ}
@@ -35,6 +35,17 @@ pub raised-fits : (z : ℤ) → SFits w64 z → raised z < 18446744073709551616
 unfolding raised
 raised-fits (pos n) f = omega (arith, f .sfits)
 raised-fits (negsuc n) f = omega arith
+
+-- within 2^62 of 0 the sign is lost half the way up
+pub lifted : (z : ℤ) → natAbs z ≤ 4611686018427387904 → z +ℤ pos 4611686018427387904 ≡ pos (raised z - 4611686018427387904)
+unfolding raised
+lifted (pos n) h = ap pos (omega arith)
+lifted (negsuc n) h = rw (le-ltb 4611686018427387904 (suc n) (omega arith)) (ap pos (omega arith))
+
+pub lifted-least : (z : ℤ) → natAbs z ≤ 4611686018427387904 → 4611686018427387904 ≤ raised z
+unfolding raised
+lifted-least (pos n) h = omega arith
+lifted-least (negsuc n) h = omega arith
 
 -- two numbers of 64 bits in one order before and after
 pub raised-order : (a b : ℤ) → SFits w64 a → SFits w64 b → leZ a b ≡ leb (raised a) (raised b)

@@ -1,6 +1,7 @@
 // The key of a pair of stars: its dot product and its two record numbers.
 ghost use mathlib.Core.Path.{_≡_};
 ghost use Prim.Native.Nat.{_+_, _*_, _<_};
+ghost use Rattle.numbers.specs.Within.{Within};
 ghost use Rattle.vectors.specs.Triples.{triples, Listed, pairDot};
 ghost use Rattle.index.specs.Raised.{raised};
 
@@ -13,6 +14,14 @@ pub fn raise(p: i64) -> u64
         return 9223372036854775808 - size;
     }
     9223372036854775808 + size
+}
+
+// The same of a dot product. It is small enough to lose its sign half the way up, so no test is needed.
+fn raise_product(p: i64) -> u64
+    requires { ⌜ Within 3000000000000000000 p ⌝ }
+    ensures { λ r. ⌜ r ≡ raised p ⌝ }
+{
+    (p + 4611686018427387904) as u64 + 4611686018427387904
 }
 
 // The two record numbers in one word.
@@ -29,5 +38,5 @@ pub fn product(stars: &[i32], a: usize, b: usize) -> u64
     requires { ⌜ (a < triples (now stars)) × (b < triples (now stars)) ⌝ }
     ensures { λ r. ⌜ r ≡ raised (pairDot (now (stars .entry)) a b) ⌝ }
 {
-    raise(vectors::pair_dot(stars, a, b))
+    raise_product(vectors::pair_dot(stars, a, b))
 }

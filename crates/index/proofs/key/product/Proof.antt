@@ -10,11 +10,11 @@ use Rattle.index.proofs.key.product.Tie as tie
 pair-dot-requires : tie.Need-pair-dot-requires
 pair-dot-requires c κs = search needs
 
-raise-requires : tie.Need-raise-requires
-raise-requires c κs = search needs
+raise-product-requires : tie.Need-raise-product-requires
+raise-product-requires c κs = search needs
 
 returns : tie.Need-returns
-returns c = c .raise .ensures ∙ ap raised (kept w64 (c .before .pair-dot .ok) (c .before .pair-dot .ensures .0))
+returns c = c .raise-product .ensures ∙ ap raised (kept w64 (c .before .pair-dot .ok) (c .before .pair-dot .ensures .0))
 
 pub product-spec : {M : Type 1} → statement M
-product-spec = tie.close (tie.spec pair-dot-requires raise-requires returns)
+product-spec = tie.close (tie.spec pair-dot-requires raise-product-requires returns)
