@@ -8,19 +8,29 @@ use second::generate::{index_bytes, lend_index};
 
 const TOLERANCE: u64 = 100_000_000_000_000;
 
-/// The index built, its test, the ranking with a narrow tolerance, plain and by index, and the chain by index.
-pub fn inputs(ranking: &Call, chain: &Call) -> Vec<(&'static str, Call)> {
+/// The index built, its test, the ranking with a narrow tolerance, plain and by index, and the chain by index. The
+/// directions of `ranking` are anywhere, so their index has nearly every pair; those of `field` are neighbours, as in
+/// a camera, and theirs has few.
+pub fn inputs(ranking: &Call, field: &Call, chain: &Call) -> Vec<(&'static str, Call)> {
     let ranking = Call { tolerance: TOLERANCE, ..ranking.clone() };
     let ranking_by_index = by_index(&ranking, &given_directions(&ranking));
-    // Without directions nothing is left but the test.
-    let test = Call { directions: Buffer::repeat(0, &[0]), ..ranking_by_index.clone() };
+    let field = Call { tolerance: TOLERANCE, ..field.clone() };
+    let field_by_index = by_index(&field, &given_directions(&field));
     vec![
         ("index, 512 stars, every pair", build(&ranking)),
-        ("test of the index, the same", test),
-        ("ranking, the same, T 10^14", ranking.clone()),
-        ("ranking by index, the same, T 10^14", ranking_by_index),
+        ("test of the index, nearly every pair", test(&ranking_by_index)),
+        ("test of the index, a camera's field", test(&field_by_index)),
+        ("ranking, anywhere, T 10^14", ranking),
+        ("ranking by index, anywhere, T 10^14", ranking_by_index),
+        ("ranking, a camera's field, T 10^14", field),
+        ("ranking by index, a camera's field, T 10^14", field_by_index),
         ("chain by index, the same star field", by_index(chain, &seen_directions(chain))),
     ]
+}
+
+/// Without directions nothing is left but the test.
+fn test(by_index: &Call) -> Call {
+    Call { directions: Buffer::repeat(0, &[0]), ..by_index.clone() }
 }
 
 fn build(ranking: &Call) -> Call {

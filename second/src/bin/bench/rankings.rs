@@ -1,7 +1,9 @@
 //! The ranking and the whole chain, and both by an index.
 
 use crate::indexes;
+use std::cmp::Reverse;
 use second::call::{Buffer, Call, Entry};
+use second::dot;
 use second::generate::{flat, random_stars, Scene, View, MOST_TOLERANCE};
 use second::random::Random;
 use second::search::Effort;
@@ -9,7 +11,7 @@ use second::sky;
 
 pub fn inputs(random: &Random) -> Vec<(&'static str, Call)> {
     let (ranking, chain) = (ranking(random), chain(random));
-    let by_index = indexes::inputs(&ranking, &chain);
+    let by_index = indexes::inputs(&ranking, &field(random), &chain);
     let plain = vec![
         ("ranking, 8 directions, 512 stars", ranking),
         ("chain, 200 x 160 star field, 512 stars", chain),
@@ -24,6 +26,21 @@ fn ranking(random: &Random) -> Call {
     call.directions = Buffer::of(&flat(&view.directions));
     call.catalogue = Buffer::of(&sky::catalogue(random, &view.stars));
     call.tolerance = 1_000_000_000_000_000;
+    call.room = Buffer::repeat(4_096, &[0]);
+    call
+}
+
+/// A star of the same sky and its seven nearest.
+fn field(random: &Random) -> Call {
+    let stars = random_stars(random, 512);
+    let wide = |v: [i32; 3]| v.map(i128::from);
+    let mut near = stars.clone();
+    near.sort_by_key(|star| Reverse(dot(&wide(*star), &wide(stars[0]))));
+    near.truncate(8);
+    let view = View::of(random, near, 8, 0);
+    let mut call = Call::new(Entry::Ranking);
+    call.directions = Buffer::of(&flat(&view.directions));
+    call.catalogue = Buffer::of(&sky::catalogue(random, &stars));
     call.room = Buffer::repeat(4_096, &[0]);
     call
 }
