@@ -49,11 +49,11 @@ some-found (suc n) p e = go (p n) refl (λ d. some-found n p d) e
     go true q f d = (n, omega arith, q)
     go false q f d = let r = f d in (r .0, omega arith, r .2)
 
-both-true : (a b : Bool) → a && b ≡ true → (a ≡ true) × (b ≡ true)
+pub both-true : (a b : Bool) → a && b ≡ true → (a ≡ true) × (b ≡ true)
 both-true true b e = (refl, e)
 both-true false b e = let z : _≡_ {A = Bool} false true = e in (cc, cc)
 
-both-false : (a b : Bool) → (a ≡ true → b ≡ false) → a && b ≡ false
+pub both-false : (a b : Bool) → (a ≡ true → b ≡ false) → a && b ≡ false
 both-false true b f = f refl
 both-false false b f = refl
 
