@@ -1,10 +1,11 @@
--- What it is to be no edge: 3 rows and columns on each side. Assumes nothing.
+-- What it is to be no edge: 3 rows and columns on each side, so that all eight neighbours are there. Assumes nothing.
 use mathlib.Core.Bool.{Bool, true, false, _||_}
 use mathlib.Core.Path.{_≡_, refl}
 use Prim.Native.Nat.{ℕ, _+_, _-_, _≤_, _<_}
 use native.Mathlib.Omega.{arith}
 use lib.Dec.{ltb}
 use borrow.Author.Tests.{ltb-false}
+use Rattle.neighbours.specs.Laws.{Amid}
 use Rattle.verdict.specs.Verdict.{edge}
 
 neither : (a b : Bool) → a || b ≡ false → (a ≡ false) × (b ≡ false)
@@ -28,3 +29,6 @@ inside width height row column e =
     let r = ltb-false row 3 (c .0) in
     let s = ltb-false (height - 1 - row) 3 (c .1) in
     record { left = omega arith; right = omega arith; above = omega arith; below = omega arith }
+
+pub amid : (width height row column : ℕ) → Inside width height row column → Amid width height row column
+amid width height row column i = record { left = omega arith; right = omega arith; above = omega arith; below = omega arith }

@@ -1,18 +1,20 @@
 -- What a verdict says of its pixel. Assumes nothing.
 use mathlib.Core.Bool.{Bool, true, false, cond, not, _&&_}
-use mathlib.Core.Path.{_≡_, refl, ap}
+use mathlib.Core.Path.{_≡_, refl, sym, ap, _∙_}
 use mathlib.Core.List.{List}
 use Prim.Native.Nat.{ℕ, _≤_, _<_}
 use native.Mathlib.Omega.{arith}
 use borrow.Author.Tests.{ltb-false}
 use Rattle.counting.specs.Contradiction.{contradiction}
 use Rattle.window.specs.Window.{at, beaten}
+use Rattle.neighbours.specs.Neighbours.{half, lone}
+use Rattle.neighbours.specs.Laws.{Beside, LitBy, lone-says, lit-says, never-at-one}
 use Rattle.centroid.specs.Centroid.{brightness, centroidOf}
 use Rattle.centroid.specs.Range.{x-close, y-close}
 use Rattle.centroid.specs.declared.Centroid.{Centroid}
-use Rattle.verdict.specs.declared.Kind.the-variants.{Dark, Beaten, Edge, Measured}
+use Rattle.verdict.specs.declared.Kind.the-variants.{Dark, Beaten, Edge, Lone, Measured}
 use Rattle.verdict.specs.Verdict.{dark, edge, peak, peakKind, kindOf}
-use Rattle.verdict.specs.Inside.{Inside, inside}
+use Rattle.verdict.specs.Inside.{Inside, inside, amid}
 use Rattle.verdict.specs.Bright as light
 
 -- ---- a peak, or not
@@ -28,22 +30,24 @@ module _ (samples : List ℕ) (width height threshold row column : ℕ) where
       go false true e = let z : _≡_ {A = Bool} false true = e in cc
       go true true e = let z : _≡_ {A = Bool} false true = e in cc
 
-  pub peak-is : peak samples width height threshold row column ≡ true → kindOf samples width height threshold row column ≡ peakKind samples width height row column
+  pub peak-is : peak samples width height threshold row column ≡ true → kindOf samples width height threshold row column ≡ peakKind samples width height threshold row column
   unfolding peak kindOf
   peak-is = go (dark samples width threshold row column) (beaten samples width height row column)
     where
-      go : (a b : Bool) → not a && not b ≡ true → cond a Dark (cond b Beaten (peakKind samples width height row column)) ≡ peakKind samples width height row column
+      go : (a b : Bool) → not a && not b ≡ true → cond a Dark (cond b Beaten (peakKind samples width height threshold row column)) ≡ peakKind samples width height threshold row column
       go false false e = refl
       go false true e = let z : _≡_ {A = Bool} false true = e in cc
       go true b e = let z : _≡_ {A = Bool} false true = e in cc
 
 -- ---- a measured pixel
 
--- its sample reaches the threshold, no pixel beats it, it has 3 rows and columns on each side, it has some brightness, and its centroid is the rule's
+-- its sample reaches the threshold, no pixel beats it, it has 3 rows and columns on each side, a neighbour reaches half the threshold, it has some
+-- brightness, and its centroid is the rule's
 pub record MeasuredAs (samples : List ℕ) (width height threshold row column : ℕ) (c : Centroid) : Type 0 where
   pub bright : threshold ≤ at samples width row column
   pub unbeaten : beaten samples width height row column ≡ false
   pub room : Inside width height row column
+  pub lit : LitBy samples width height threshold row column
   pub some : 0 < brightness samples width row column
   pub is : c ≡ centroidOf samples width row column
 
@@ -51,20 +55,23 @@ module _ (samples : List ℕ) (width height threshold row column : ℕ) (c : Cen
   pub measured-as : kindOf samples width height threshold row column ≡ Measured c → MeasuredAs samples width height threshold row column c
   unfolding kindOf peakKind
   measured-as = go (dark samples width threshold row column) refl (beaten samples width height row column) refl (edge width height row column) refl
+      (lone samples width height threshold row column) refl
     where
       go : (a : Bool) → dark samples width threshold row column ≡ a → (b : Bool) → beaten samples width height row column ≡ b
-          → (d : Bool) → edge width height row column ≡ d
-          → cond a Dark (cond b Beaten (cond d Edge (Measured (centroidOf samples width row column)))) ≡ Measured c
+          → (d : Bool) → edge width height row column ≡ d → (l : Bool) → lone samples width height threshold row column ≡ l
+          → cond a Dark (cond b Beaten (cond d Edge (cond l Lone (Measured (centroidOf samples width row column))))) ≡ Measured c
           → MeasuredAs samples width height threshold row column c
-      go true p b q d r m = contradiction (cc)
-      go false p true q d r m = contradiction (cc)
-      go false p false q true r m = contradiction (cc)
-      go false p false q false r m =
+      go true p b q d r l s m = contradiction (cc)
+      go false p true q d r l s m = contradiction (cc)
+      go false p false q true r l s m = contradiction (cc)
+      go false p false q false r true s m = contradiction (cc)
+      go false p false q false r false s m =
           let i = inside width height row column r in
           record {
             bright = ltb-false (at samples width row column) threshold p;
             unbeaten = q;
             room = i;
+            lit = lit-says samples width height threshold row column s;
             some = light.bright samples width height row column q i;
             is = cc;
           }
@@ -82,3 +89,44 @@ module _ (samples : List ℕ) (width height threshold row column : ℕ) (c : Cen
       let v : c .y ≡ centroidOf samples width row column .y = ap (λ (s : Centroid). s .y) (m .is) in
       let b : c .brightness ≡ brightness samples width row column = ap (λ (s : Centroid). s .brightness) (m .is) in
       (omega (arith, p .most, i .right), omega (arith, q .most, i .below), omega (arith, m .some))
+
+-- ---- a lone pixel
+
+-- it would be measured, but none of its neighbours reaches half the threshold
+pub record LoneAs (samples : List ℕ) (width height threshold row column : ℕ) : Type 0 where
+  pub bright : threshold ≤ at samples width row column
+  pub unbeaten : beaten samples width height row column ≡ false
+  pub room : Inside width height row column
+  pub alone : (r c : ℕ) → Beside width height row column r c → at samples width r c < half threshold
+
+module _ (samples : List ℕ) (width height threshold row column : ℕ) where
+  lone-by : kindOf samples width height threshold row column ≡ Lone
+      → (dark samples width threshold row column ≡ false) × (beaten samples width height row column ≡ false) × (edge width height row column ≡ false)
+      × (lone samples width height threshold row column ≡ true)
+  unfolding kindOf peakKind
+  lone-by = go (dark samples width threshold row column) (beaten samples width height row column) (edge width height row column) (lone samples width height threshold row column)
+    where
+      go : (a b d l : Bool) → cond a Dark (cond b Beaten (cond d Edge (cond l Lone (Measured (centroidOf samples width row column))))) ≡ Lone
+          → (a ≡ false) × (b ≡ false) × (d ≡ false) × (l ≡ true)
+      go true b d l e = contradiction (cc)
+      go false true d l e = contradiction (cc)
+      go false false true l e = contradiction (cc)
+      go false false false true e = (refl, refl, refl, refl)
+      go false false false false e = contradiction (cc)
+
+  pub lone-as : kindOf samples width height threshold row column ≡ Lone → LoneAs samples width height threshold row column
+  lone-as e =
+      let t = lone-by e in
+      record {
+        bright = ltb-false (at samples width row column) threshold (t .0);
+        unbeaten = t .1;
+        room = inside width height row column (t .2);
+        alone = lone-says samples width height threshold row column (t .3);
+      }
+
+-- with threshold 1 nothing is lone
+pub none-lone-at-one : (samples : List ℕ) (width height row column : ℕ) → kindOf samples width height 1 row column ≡ Lone → ⊥
+none-lone-at-one samples width height row column e =
+    let t = lone-by samples width height 1 row column e in
+    let n = never-at-one samples width height row column (amid width height row column (inside width height row column (t .2))) in
+    contradiction (sym n ∙ t .3)

@@ -4,9 +4,10 @@ use mathlib.Core.List.{List}
 use Prim.Native.Nat.{ℕ, _-_}
 use lib.Dec.{ltb}
 use Rattle.window.specs.Window.{at, beaten}
+use Rattle.neighbours.specs.Neighbours.{lone}
 use Rattle.centroid.specs.Centroid.{centroidOf}
 use Rattle.verdict.specs.declared.Kind.{Kind}
-use Rattle.verdict.specs.declared.Kind.the-variants.{Dark, Beaten, Edge, Measured}
+use Rattle.verdict.specs.declared.Kind.the-variants.{Dark, Beaten, Edge, Lone, Measured}
 use Rattle.verdict.specs.declared.Verdict.{Verdict}
 
 -- the sample does not reach the threshold
@@ -22,18 +23,19 @@ edge width height row column =
 unfoldable pub peak : List ℕ → ℕ → ℕ → ℕ → ℕ → ℕ → Bool
 peak samples width height threshold row column = not (dark samples width threshold row column) && not (beaten samples width height row column)
 
--- what a pixel is that is neither: at the edge, or measured
-unfoldable pub peakKind : List ℕ → ℕ → ℕ → ℕ → ℕ → Kind
-peakKind samples width height row column =
+-- what a pixel is that is neither: at the edge, lone, or measured
+unfoldable pub peakKind : List ℕ → ℕ → ℕ → ℕ → ℕ → ℕ → Kind
+peakKind samples width height threshold row column =
     cond (edge width height row column) Edge
-    (Measured (centroidOf samples width row column))
+    (cond (lone samples width height threshold row column) Lone
+    (Measured (centroidOf samples width row column)))
 
--- the tests in document 01's order, as T-04 leaves them
+-- the tests in document 01's order, as T-04 and T-06 leave them
 unfoldable pub kindOf : List ℕ → ℕ → ℕ → ℕ → ℕ → ℕ → Kind
 kindOf samples width height threshold row column =
     cond (dark samples width threshold row column) Dark
     (cond (beaten samples width height row column) Beaten
-    (peakKind samples width height row column))
+    (peakKind samples width height threshold row column))
 
 -- the pixel's row and column with its kind
 abbrev pub verdictOf : List ℕ → ℕ → ℕ → ℕ → ℕ → ℕ → Verdict
@@ -45,4 +47,5 @@ abbrev pub kindNumber : Kind → ℕ
 kindNumber Dark = 0
 kindNumber Beaten = 1
 kindNumber Edge = 2
-kindNumber (Measured c) = 3
+kindNumber Lone = 3
+kindNumber (Measured c) = 4

@@ -1,4 +1,4 @@
-// The verdict on one pixel: the first that applies of dark, beaten, edge and measured.
+// The verdict on one pixel: the first that applies of dark, beaten, edge, lone and measured.
 ghost use mathlib.Core.Path.{_≡_};
 ghost use mathlib.Core.Bool.{false};
 ghost use Prim.Native.Nat.{_*_, _<_, _≤_};
@@ -11,6 +11,7 @@ pub enum Kind {
     Dark,
     Beaten,
     Edge,
+    Lone,
     Measured(Centroid),
 }
 
@@ -28,7 +29,8 @@ pub fn kind_number(kind: Kind) -> u32
         Kind::Dark => 0,
         Kind::Beaten => 1,
         Kind::Edge => 2,
-        Kind::Measured(_) => 3,
+        Kind::Lone => 3,
+        Kind::Measured(_) => 4,
     }
 }
 
@@ -82,14 +84,24 @@ pub fn is_peak(
     !window::is_beaten(samples, width, height, row, column)
 }
 
-// The kind of a pixel that is neither dark nor beaten. Where it is no edge its brightness is above 0 (`bright` of specs/Bright), so the position's
-// quotients exist.
-pub fn peak_kind(samples: &[u16], width: usize, height: usize, row: usize, column: usize) -> Kind
+// The kind of a pixel that is neither dark nor beaten. Where it is no edge it has all its neighbours, and its brightness is above 0 (`bright` of
+// specs/Bright), so the position's quotients exist.
+pub fn peak_kind(
+    samples: &[u16],
+    width: usize,
+    height: usize,
+    threshold: usize,
+    row: usize,
+    column: usize,
+) -> Kind
     requires { ⌜ (length (now samples) ≡ height * width) × (row < height) × (column < width) × (height ≤ 1024) × (width ≤ 1024) × (beaten (now samples) width height row column ≡ false) ⌝ }
-    ensures { λ r. ⌜ r ≡ peakKind (now (samples .entry)) width height row column ⌝ }
+    ensures { λ r. ⌜ r ≡ peakKind (now (samples .entry)) width height threshold row column ⌝ }
 {
     if is_edge(width, height, row, column) {
         return Kind::Edge;
+    }
+    if neighbours::is_lone(samples, width, height, threshold, row, column) {
+        return Kind::Lone;
     }
     let moments = centroid::moments_at(samples, width, height, row, column);
     Kind::Measured(centroid::from_moments(row, column, moments))
@@ -113,7 +125,7 @@ fn kind_at(
     if window::is_beaten(samples, width, height, row, column) {
         return Kind::Beaten;
     }
-    peak_kind(samples, width, height, row, column)
+    peak_kind(samples, width, height, threshold, row, column)
 }
 
 // The verdict on the pixel at row, column.

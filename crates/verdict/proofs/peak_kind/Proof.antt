@@ -1,11 +1,11 @@
--- `verdict::peak_kind` meets its contract: past the edge test there is room for the whole window, the brightness is above 0, and what the sums give
--- is the signed position. Assumes nothing.
+-- `verdict::peak_kind` meets its contract: past the edge test there is room for the neighbours and for the whole window, the brightness is above 0,
+-- and what the sums give is the signed position. Assumes nothing.
 use borrow.Author.Needs.{needs}
 use mathlib.Core.Path.{sym, _∙_}
 use native.Mathlib.Omega.{arith}
 use Rattle.centroid.specs.Signed.{from-moments}
 use Rattle.verdict.specs.Verdict.{peakKind}
-use Rattle.verdict.specs.Inside.{inside}
+use Rattle.verdict.specs.Inside.{inside, amid}
 use Rattle.verdict.specs.Bright.{bright}
 use Rattle.verdict.proofs.peak_kind.Statement.{statement}
 use Rattle.verdict.proofs.peak_kind.Tie as tie
@@ -17,15 +17,27 @@ returns : tie.Need-returns
 unfolding peakKind
 returns c = rw (sym (c .before .is-edge .ensures) ∙ c .if1 .taken)
 
+is-lone-requires : tie.Need-is-lone-requires
+is-lone-requires c κs =
+    let m = amid _ _ _ _ (inside _ _ _ _ (sym (c .before .is-edge .ensures) ∙ c .if1 .left)) in
+    search needs
+
+returns-2 : tie.Need-returns-2
+unfolding peakKind
+returns-2 c =
+    let e = c .before .before in
+    rw (sym (e .before .is-edge .ensures) ∙ e .if1 .left, sym (c .before .is-lone .ensures) ∙ c .if2 .taken)
+
 moments-at-requires : tie.Need-moments-at-requires
 moments-at-requires c κs =
-    let i = inside _ _ _ _ (sym (c .before .is-edge .ensures) ∙ c .if1 .left) in
+    let e = c .before .before in
+    let i = inside _ _ _ _ (sym (e .before .is-edge .ensures) ∙ e .if1 .left) in
     search needs
 
 from-moments-requires : tie.Need-from-moments-requires
 from-moments-requires c κs =
     let m = c .moments-at in
-    let e = c .before in
+    let e = c .before .before .before in
     let s = e .before .before .before in
     let a = s .args in
     let i = inside _ _ _ _ (sym (e .before .is-edge .ensures) ∙ e .if1 .left) in
@@ -38,15 +50,17 @@ from-moments-requires c κs =
       omega arith,
     )
 
-returns-2 : tie.Need-returns-2
+returns-3 : tie.Need-returns-3
 unfolding peakKind
-returns-2 c =
+returns-3 c =
     let m = c .before .moments-at in
-    let e = c .before .before in
+    let l = c .before .before in
+    let e = l .before .before in
     let a = e .before .before .before .args in
     let i = inside _ _ _ _ (sym (e .before .is-edge .ensures) ∙ e .if1 .left) in
     rw (
       sym (e .before .is-edge .ensures) ∙ e .if1 .left,
+      sym (l .before .is-lone .ensures) ∙ l .if2 .left,
       c .from-moments .ensures,
       from-moments (a .samples .now) (a .width) (a .row) (a .column) (omega (arith, i .above)) (omega (arith, i .left)) (m .result) (m .ensures),
     )
@@ -57,6 +71,8 @@ peak-kind-spec =
     (tie.spec
     is-edge-requires
     returns
+    is-lone-requires
+    returns-2
     moments-at-requires
     from-moments-requires
-    returns-2)
+    returns-3)
