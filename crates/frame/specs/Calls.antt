@@ -7,7 +7,7 @@ use Rattle.refusal.specs.Table.{lowest, answered}
 use Rattle.refusal.specs.Answer.{Answer, refusedWith, acceptedWith}
 use Rattle.verdict.specs.Verdict.{verdictOf, kindNumber}
 use Rattle.verdict.specs.declared.Kind.{Kind}
-use Rattle.verdict.specs.declared.Kind.the-variants.{Dark, Beaten, Edge, Measured}
+use Rattle.verdict.specs.declared.Kind.the-variants.{Dark, Beaten, Edge, Lone, Measured}
 use Rattle.verdict.specs.declared.Verdict.{Verdict}
 use Rattle.frame.specs.Input.{sizeOut, lengthOut, thresholdOut, firstOver, sampleOut, pixelOut, frameRows, pixelRows}
 use Rattle.frame.specs.Stars.{reportOf, nothing}
@@ -34,6 +34,7 @@ abbrev pub measuredValues : Kind → List ℤ
 measuredValues Dark = []
 measuredValues Beaten = []
 measuredValues Edge = []
+measuredValues Lone = []
 measuredValues (Measured c) = pos (c .x) ∷ (pos (c .y) ∷ (pos (c .brightness) ∷ []))
 
 abbrev pub verdictValues : Verdict → List ℤ

@@ -22,7 +22,7 @@ use Rattle.centroid.specs.declared.Centroid.{Centroid}
 use Rattle.verdict.specs.Verdict.{verdictOf}
 use Rattle.verdict.specs.Laws.{measured-range}
 use Rattle.verdict.specs.declared.Kind.{Kind}
-use Rattle.verdict.specs.declared.Kind.the-variants.{Dark, Beaten, Edge, Measured}
+use Rattle.verdict.specs.declared.Kind.the-variants.{Dark, Beaten, Edge, Lone, Measured}
 use Rattle.frame.specs.Input.{frameRows, pixelRows}
 use Rattle.frame.specs.Stars.{bright, nought, isMeasured, numberOf, kindAt, starAt, measuredPixels, measuredOf, reportOf, nothing}
 use Rattle.frame.specs.StarsLaws.{star-is}
@@ -88,6 +88,14 @@ module _ (samples : List ℕ) (width height threshold m : ℕ) where
   unfolding measuredPixels
   listed-none k h = none-beyond (λ p. isMeasured (kindAt samples width height threshold p)) (λ p. bright (starAt samples width p)) m k h
 
+  -- a lone pixel is not listed
+  pub lone-unlisted : (k : ℕ) → kindAt samples width height threshold k ≡ Lone → count k (measuredPixels samples width height threshold m) ≡ 0
+  lone-unlisted k e = go (decLt k m)
+    where
+      go : Dec (k < m) → count k (measuredPixels samples width height threshold m) ≡ 0
+      go (yes h) = listed-once k h ∙ ap (λ (v : Kind). one (isMeasured v)) e
+      go (no h) = listed-none k (omega arith)
+
   -- by falling brightness, equal ones by rising number
   pub listed-order : InOrder (λ p. bright (starAt samples width p)) (measuredPixels samples width height threshold m)
   unfolding measuredPixels
@@ -123,6 +131,7 @@ measured-of : (v : Kind) → isMeasured v ≡ true → (c : Centroid) × (v ≡ 
 measured-of Dark e = contradiction (cc)
 measured-of Beaten e = contradiction (cc)
 measured-of Edge e = contradiction (cc)
+measured-of Lone e = contradiction (cc)
 measured-of (Measured c) e = (c, refl)
 
 one-true : (b : Bool) → 1 ≤ one b → b ≡ true

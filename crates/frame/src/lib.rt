@@ -1,4 +1,4 @@
-// A frame of samples: the verdict on one pixel, and the list of its stars with two counts.
+// A frame of samples: the verdict on one pixel, and the list of its stars with three counts.
 ghost use mathlib.Core.Path.{_≡_};
 ghost use Rattle.frame.specs.Calls.{judgementOf, listingOf, answerOf, answerFor};
 use centroid::Centroid;
@@ -16,12 +16,13 @@ pub enum Judgement {
     Judged(Verdict),
 }
 
-// The first count of stars are the list, and the rest are zeros; measured and edge count the pixels of the whole frame.
+// The first count of stars are the list, and the rest are zeros; measured, edge and lone count the pixels of the whole frame.
 pub struct Report {
     pub stars: [Centroid; 8],
     pub count: usize,
     pub measured: usize,
     pub edge: usize,
+    pub lone: usize,
 }
 
 // An array stands beside an enum and not in it. Where the call is refused the report is zeros.
