@@ -14,11 +14,14 @@ use Rattle.window.specs.declared.Beating.{Beating}
 use Rattle.window.specs.declared.Beating.the-variants.{At, Nothing}
 use Rattle.window.specs.Window.{at, beaten, firstBeating}
 use Rattle.window.specs.FirstLaws.{FirstAt, first-says, found-beaten, nothing-unbeaten}
+use Rattle.neighbours.specs.Neighbours.{half, lone, largestBeside}
+use Rattle.neighbours.specs.Laws.{LargestBeside, largest-is}
 use Rattle.centroid.specs.Centroid.{centroidOf}
 use Rattle.centroid.specs.declared.Centroid.{Centroid}
 use Rattle.verdict.specs.declared.Kind.the-variants as kinds
 use Rattle.verdict.specs.Verdict.{dark, edge, peakKind, kindOf, verdictOf}
-use Rattle.verdict.specs.Laws.{MeasuredAs, measured-as}
+use Rattle.verdict.specs.Inside.{inside, amid}
+use Rattle.verdict.specs.Laws.{MeasuredAs, measured-as, LoneAs, lone-as}
 use Rattle.frame.specs.Input.{pixelRows}
 use Rattle.frame.specs.Calls.{judgementOf}
 use Rattle.frame.specs.declared.Judgement.{Judgement}
@@ -26,7 +29,7 @@ use Rattle.frame.specs.declared.Judgement.the-variants as judgements
 use Rattle.reason.specs.declared.Side.{Side}
 use Rattle.reason.specs.declared.Side.the-variants.{Left, Right, Top, Bottom}
 use Rattle.reason.specs.declared.Reason.{Reason}
-use Rattle.reason.specs.declared.Reason.the-variants.{Dark, Beaten, Edge, Measured}
+use Rattle.reason.specs.declared.Reason.the-variants.{Dark, Beaten, Edge, Lone, Measured}
 use Rattle.reason.specs.declared.Explanation.{Explanation}
 use Rattle.reason.specs.declared.Explanation.the-variants.{Refused, Given}
 use Rattle.reason.specs.Side.{sideNumber, firstSide}
@@ -35,27 +38,29 @@ use Rattle.reason.specs.Reason.{peakReason, unlessBeaten, reasonOf, expl
 -- ---- the kind is the verdict's
 
 module _ (samples : List ℕ) (width height threshold row column : ℕ) where
-  pub peak-kind-is : kindIn (peakReason samples width height row column) ≡ peakKind samples width height row column
+  pub peak-kind-is : kindIn (peakReason samples width height threshold row column) ≡ peakKind samples width height threshold row column
   unfolding peakReason peakKind
-  peak-kind-is = go (edge width height row column)
+  peak-kind-is = go (edge width height row column) (lone samples width height threshold row column)
     where
-      go : (a : Bool) → kindIn (cond a (Edge (firstSide width height row column)) (Measured (centroidOf samples width row column)))
-          ≡ cond a kinds.Edge (kinds.Measured (centroidOf samples width row column))
-      go true = refl
-      go false = refl
+      go : (a l : Bool)
+          → kindIn (cond a (Edge (firstSide width height row column)) (cond l (Lone (largestBeside samples width row column)) (Measured (centroidOf samples width row column))))
+          ≡ cond a kinds.Edge (cond l kinds.Lone (kinds.Measured (centroidOf samples width row column)))
+      go true l = refl
+      go false true = refl
+      go false false = refl
 
   pub kind-is : kindIn (reasonOf samples width height threshold row column) ≡ kindOf samples width height threshold row column
   unfolding reasonOf kindOf
   kind-is = by-dark (dark samples width threshold row column)
     where
       by-look : (b : Beating) → firstBeating samples width height row column ≡ b
-          → kindIn (unlessBeaten (peakReason samples width height row column) b) ≡ cond (beaten samples width height row column) kinds.Beaten (peakKind samples width height row column)
+          → kindIn (unlessBeaten (peakReason samples width height threshold row column) b) ≡ cond (beaten samples width height row column) kinds.Beaten (peakKind samples width height threshold row column)
       by-look (At r c) e = rw (found-beaten samples width height row column r c e)
       by-look Nothing e = rw (nothing-unbeaten samples width height row column e) peak-kind-is
 
       by-dark : (d : Bool)
-          → kindIn (cond d (Dark (at samples width row column) threshold) (unlessBeaten (peakReason samples width height row column) (firstBeating samples width height row column)))
-          ≡ cond d kinds.Dark (cond (beaten samples width height row column) kinds.Beaten (peakKind samples width height row column))
+          → kindIn (cond d (Dark (at samples width row column) threshold) (unlessBeaten (peakReason samples width height threshold row column) (firstBeating samples width height row column)))
+          ≡ cond d kinds.Dark (cond (beaten samples width height row column) kinds.Beaten (peakKind samples width height threshold row column))
       by-dark true = refl
       by-dark false = by-look (firstBeating samples width height row column) refl
 
@@ -140,20 +145,24 @@ module _ (samples : List ℕ) (width height threshold row column : ℕ) where
       → (dark samples width threshold row column ≡ true → P (Dark (at samples width row column) threshold))
       → ((r c : ℕ) → firstBeating samples width height row column ≡ At r c → P (Beaten r c))
       → (edge width height row column ≡ true → P (Edge (firstSide width height row column)))
+      → (edge width height row column ≡ false → P (Lone (largestBeside samples width row column)))
       → P (Measured (centroidOf samples width row column))
       → P (reasonOf samples width height threshold row column)
   unfolding reasonOf peakReason
-  by-case P d b e m =
+  by-case P d b e l m =
       go (dark samples width threshold row column) refl (firstBeating samples width height row column) refl (edge width height row column) refl
+      (lone samples width height threshold row column)
     where
       go : (a : Bool) → dark samples width threshold row column ≡ a → (k : Beating) → firstBeating samples width height row column ≡ k
-          → (x : Bool) → edge width height row column ≡ x
+          → (x : Bool) → edge width height row column ≡ x → (y : Bool)
           → P (cond a (Dark (at samples width row column) threshold)
-          (unlessBeaten (cond x (Edge (firstSide width height row column)) (Measured (centroidOf samples width row column))) k))
-      go true p k q x r = d p
-      go false p (At j k) q x r = b j k q
-      go false p Nothing q true r = e r
-      go false p Nothing q false r = m
+          (unlessBeaten
+          (cond x (Edge (firstSide width height row column)) (cond y (Lone (largestBeside samples width row column)) (Measured (centroidOf samples width row column)))) k))
+      go true p k q x r y = d p
+      go false p (At j k) q x r y = b j k q
+      go false p Nothing q true r y = e r
+      go false p Nothing q false r true = l r
+      go false p Nothing q false r false = m
 
   -- the sample and the threshold: the one does not reach the other
   pub dark-says : (s t : ℕ) → reasonOf samples width height threshold row column ≡ Dark s t → (s ≡ at samples width row column) × (t ≡ threshold) × (s < t)
@@ -164,6 +173,7 @@ module _ (samples : List ℕ) (width height threshold row column : ℕ) where
       let q : threshold ≡ t = cc in
       (sym p, sym q, omega (arith, ltb-true (at samples width row column) threshold d)))
       (λ r c f e. contradiction (cc))
+      (λ f e. contradiction (cc))
       (λ f e. contradiction (cc))
       (λ e. contradiction (cc))
 
@@ -176,6 +186,7 @@ module _ (samples : List ℕ) (width height threshold row column : ℕ) where
       let p : At j k ≡ At r c = cc in
       first-says samples width height row column r c (f ∙ p))
       (λ f e. contradiction (cc))
+      (λ f e. contradiction (cc))
       (λ e. contradiction (cc))
 
   -- the side that is broken first
@@ -187,7 +198,27 @@ module _ (samples : List ℕ) (width height threshold row column : ℕ) where
       (λ f e.
       let p : firstSide width height row column ≡ side = cc in
       rw (← p) (side-says width height row column f))
+      (λ f e. contradiction (cc))
       (λ e. contradiction (cc))
+
+  -- the largest sample among the eight, which is below half the threshold
+  pub lone-says : (m : ℕ) → reasonOf samples width height threshold row column ≡ Lone m → LargestBeside samples width height row column m × (m < half threshold)
+  lone-says m e =
+      let a = lone-as samples width height threshold row column (sym (kind-is samples width height threshold row column) ∙ ap kindIn e) in
+      let l = largest e in
+      let o = l .one-of in
+      (l, omega (arith, o .is, a .alone (o .r) (o .c) (o .near-by)))
+    where
+      largest : reasonOf samples width height threshold row column ≡ Lone m → LargestBeside samples width height row column m
+      largest =
+          by-case (λ x. x ≡ Lone m → LargestBeside samples width height row column m)
+          (λ d e. contradiction (cc))
+          (λ r c f e. contradiction (cc))
+          (λ f e. contradiction (cc))
+          (λ f e.
+          let p : largestBeside samples width row column ≡ m = cc in
+          rw (← p) (largest-is samples width height row column (amid width height row column (inside width height row column f))))
+          (λ e. contradiction (cc))
 
   -- the centroid of its window
   pub measured-says : (c : Centroid) → reasonOf samples width height threshold row column ≡ Measured c → MeasuredAs samples width height threshold row column c

@@ -1,4 +1,4 @@
--- Request T-01: why a pixel is not a star. Assumes nothing.
+-- Request T-01: why a pixel is not a star, with T-06's lone. Assumes nothing.
 use mathlib.Core.Bool.{cond}
 use mathlib.Core.List.{List}
 use Prim.Native.Nat.{ℕ}
@@ -6,23 +6,25 @@ use Rattle.refusal.specs.Table.{lowest, answered}
 use Rattle.window.specs.declared.Beating.{Beating}
 use Rattle.window.specs.declared.Beating.the-variants.{At, Nothing}
 use Rattle.window.specs.Window.{at, firstBeating}
+use Rattle.neighbours.specs.Neighbours.{lone, largestBeside}
 use Rattle.centroid.specs.Centroid.{centroidOf}
 use Rattle.verdict.specs.declared.Kind.{Kind}
 use Rattle.verdict.specs.declared.Kind.the-variants as kinds
 use Rattle.verdict.specs.Verdict.{dark, edge, kindNumber}
 use Rattle.frame.specs.Input.{pixelRows}
 use Rattle.reason.specs.declared.Reason.{Reason}
-use Rattle.reason.specs.declared.Reason.the-variants.{Dark, Beaten, Edge, Measured}
+use Rattle.reason.specs.declared.Reason.the-variants.{Dark, Beaten, Edge, Lone, Measured}
 use Rattle.reason.specs.declared.Explanation.{Explanation}
 use Rattle.reason.specs.declared.Explanation.the-variants.{Refused, Given}
 use Rattle.reason.specs.declared.Values.{Values}
 use Rattle.reason.specs.Side.{sideNumber, firstSide}
 
--- of a pixel that is neither dark nor beaten: the first broken side, or measured, with its centroid
-unfoldable pub peakReason : List ℕ → ℕ → ℕ → ℕ → ℕ → Reason
-peakReason samples width height row column =
+-- of a pixel that is neither dark nor beaten: the first broken side; lone, with the largest sample among the eight; or measured, with its centroid
+unfoldable pub peakReason : List ℕ → ℕ → ℕ → ℕ → ℕ → ℕ → Reason
+peakReason samples width height threshold row column =
     cond (edge width height row column) (Edge (firstSide width height row column))
-    (Measured (centroidOf samples width row column))
+    (cond (lone samples width height threshold row column) (Lone (largestBeside samples width row column))
+    (Measured (centroidOf samples width row column)))
 
 -- the pixel that beats it first, or another reason where none does
 abbrev pub unlessBeaten : Reason → Beating → Reason
@@ -33,7 +35,7 @@ unlessBeaten other Nothing = other
 unfoldable pub reasonOf : List ℕ → ℕ → ℕ → ℕ → ℕ → ℕ → Reason
 reasonOf samples width height threshold row column =
     cond (dark samples width threshold row column) (Dark (at samples width row column) threshold)
-    (unlessBeaten (peakReason samples width height row column) (firstBeating samples width height row column))
+    (unlessBeaten (peakReason samples width height threshold row column) (firstBeating samples width height row column))
 
 -- the reason, or the refusal
 unfoldable pub explanationOf : List ℕ → ℕ → ℕ → ℕ → ℕ → ℕ → Explanation
@@ -47,6 +49,7 @@ abbrev pub kindIn : Reason → Kind
 kindIn (Dark sample threshold) = kinds.Dark
 kindIn (Beaten r c) = kinds.Beaten
 kindIn (Edge side) = kinds.Edge
+kindIn (Lone largest) = kinds.Lone
 kindIn (Measured c) = kinds.Measured c
 
 abbrev pub reasonNumber : Reason → ℕ
@@ -55,9 +58,10 @@ reasonNumber reason = kindNumber (kindIn reason)
 abbrev pub three : ℕ → ℕ → ℕ → Values
 three a b c = record { first = a; second = b; third = c }
 
--- sample and threshold; row and column; the side; x, y and brightness
+-- sample and threshold; row and column; the side; the largest sample; x, y and brightness
 abbrev pub valuesIn : Reason → Values
 valuesIn (Dark sample threshold) = three sample threshold 0
 valuesIn (Beaten r c) = three r c 0
 valuesIn (Edge side) = three (sideNumber side) 0 0
+valuesIn (Lone largest) = three largest 0 0
 valuesIn (Measured c) = three (c .x) (c .y) (c .brightness)

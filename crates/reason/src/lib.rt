@@ -27,6 +27,8 @@ pub enum Reason {
     Beaten(usize, usize),
     // the first side that is too near
     Edge(Side),
+    // the largest sample among its eight neighbours
+    Lone(u16),
     Measured(Centroid),
 }
 
@@ -62,6 +64,7 @@ pub fn kind_of(reason: Reason) -> Kind
         Reason::Dark(_, _) => Kind::Dark,
         Reason::Beaten(_, _) => Kind::Beaten,
         Reason::Edge(_) => Kind::Edge,
+        Reason::Lone(_) => Kind::Lone,
         Reason::Measured(centroid) => Kind::Measured(centroid),
     }
 }
@@ -92,6 +95,11 @@ pub fn values_of(reason: Reason) -> Values
             second: 0,
             third: 0,
         },
+        Reason::Lone(largest) => Values {
+            first: largest as u64,
+            second: 0,
+            third: 0,
+        },
         Reason::Measured(centroid) => Values {
             first: centroid.x,
             second: centroid.y,
@@ -117,14 +125,22 @@ fn first_side(width: usize, height: usize, row: usize, column: usize) -> Side
     Side::Bottom
 }
 
-// The reason for a pixel that is neither dark nor beaten: one that is not measured is at the edge.
-fn peak_reason(samples: &[u16], width: usize, height: usize, row: usize, column: usize) -> Reason
+// The reason for a pixel that is neither dark nor beaten: one that is neither lone nor measured is at the edge.
+fn peak_reason(
+    samples: &[u16],
+    width: usize,
+    height: usize,
+    threshold: usize,
+    row: usize,
+    column: usize,
+) -> Reason
     requires { ⌜ (length (now samples) ≡ height * width) × (row < height) × (column < width) × (height ≤ 1024) × (width ≤ 1024) × (beaten (now samples) width height row column ≡ false) ⌝ }
-    ensures { λ r. ⌜ r ≡ peakReason (now (samples .entry)) width height row column ⌝ }
+    ensures { λ r. ⌜ r ≡ peakReason (now (samples .entry)) width height threshold row column ⌝ }
 {
-    let kind = verdict::peak_kind(samples, width, height, row, column);
+    let kind = verdict::peak_kind(samples, width, height, threshold, row, column);
     match kind {
         Kind::Measured(centroid) => Reason::Measured(centroid),
+        Kind::Lone => Reason::Lone(neighbours::largest_beside(samples, width, height, row, column)),
         _ => Reason::Edge(first_side(width, height, row, column)),
     }
 }
@@ -148,7 +164,7 @@ fn reason_at(
     let beating = window::first_beating(samples, width, height, row, column);
     match beating {
         Beating::At(r, c) => Reason::Beaten(r, c),
-        Beating::Nothing => peak_reason(samples, width, height, row, column),
+        Beating::Nothing => peak_reason(samples, width, height, threshold, row, column),
     }
 }
 

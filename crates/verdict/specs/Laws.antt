@@ -100,33 +100,41 @@ pub record LoneAs (samples : List ℕ) (width height threshold row column : ℕ)
   pub alone : (r c : ℕ) → Beside width height row column r c → at samples width r c < half threshold
 
 module _ (samples : List ℕ) (width height threshold row column : ℕ) where
-  lone-by : kindOf samples width height threshold row column ≡ Lone
-      → (dark samples width threshold row column ≡ false) × (beaten samples width height row column ≡ false) × (edge width height row column ≡ false)
-      × (lone samples width height threshold row column ≡ true)
-  unfolding kindOf peakKind
-  lone-by = go (dark samples width threshold row column) (beaten samples width height row column) (edge width height row column) (lone samples width height threshold row column)
+  -- of a peak: it is no edge, and none of its neighbours reaches half the threshold
+  pub peak-lone : peakKind samples width height threshold row column ≡ Lone → (edge width height row column ≡ false) × (lone samples width height threshold row column ≡ true)
+  unfolding peakKind
+  peak-lone = go (edge width height row column) (lone samples width height threshold row column)
     where
-      go : (a b d l : Bool) → cond a Dark (cond b Beaten (cond d Edge (cond l Lone (Measured (centroidOf samples width row column))))) ≡ Lone
-          → (a ≡ false) × (b ≡ false) × (d ≡ false) × (l ≡ true)
-      go true b d l e = contradiction (cc)
-      go false true d l e = contradiction (cc)
-      go false false true l e = contradiction (cc)
-      go false false false true e = (refl, refl, refl, refl)
-      go false false false false e = contradiction (cc)
+      go : (d l : Bool) → cond d Edge (cond l Lone (Measured (centroidOf samples width row column))) ≡ Lone → (d ≡ false) × (l ≡ true)
+      go true l e = contradiction (cc)
+      go false true e = (refl, refl)
+      go false false e = contradiction (cc)
+
+  lone-peak : kindOf samples width height threshold row column ≡ Lone
+      → (dark samples width threshold row column ≡ false) × (beaten samples width height row column ≡ false) × (peakKind samples width height threshold row column ≡ Lone)
+  unfolding kindOf
+  lone-peak = go (dark samples width threshold row column) (beaten samples width height row column)
+    where
+      go : (a b : Bool) → cond a Dark (cond b Beaten (peakKind samples width height threshold row column)) ≡ Lone
+          → (a ≡ false) × (b ≡ false) × (peakKind samples width height threshold row column ≡ Lone)
+      go true b e = contradiction (cc)
+      go false true e = contradiction (cc)
+      go false false e = (refl, refl, e)
 
   pub lone-as : kindOf samples width height threshold row column ≡ Lone → LoneAs samples width height threshold row column
   lone-as e =
-      let t = lone-by e in
+      let p = lone-peak e in
+      let t = peak-lone (p .2) in
       record {
-        bright = ltb-false (at samples width row column) threshold (t .0);
-        unbeaten = t .1;
-        room = inside width height row column (t .2);
-        alone = lone-says samples width height threshold row column (t .3);
+        bright = ltb-false (at samples width row column) threshold (p .0);
+        unbeaten = p .1;
+        room = inside width height row column (t .0);
+        alone = lone-says samples width height threshold row column (t .1);
       }
 
 -- with threshold 1 nothing is lone
 pub none-lone-at-one : (samples : List ℕ) (width height row column : ℕ) → kindOf samples width height 1 row column ≡ Lone → ⊥
 none-lone-at-one samples width height row column e =
-    let t = lone-by samples width height 1 row column e in
-    let n = never-at-one samples width height row column (amid width height row column (inside width height row column (t .2))) in
-    contradiction (sym n ∙ t .3)
+    let t = peak-lone samples width height 1 row column (lone-peak samples width height 1 row column e .2) in
+    let n = never-at-one samples width height row column (amid width height row column (inside width height row column (t .0))) in
+    contradiction (sym n ∙ t .1)

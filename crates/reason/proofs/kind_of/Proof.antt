@@ -14,6 +14,9 @@ enum-told-2 c = search needs
 enum-told-3 : tie.Need-enum-told-3
 enum-told-3 c = search needs
 
+enum-told-4 : tie.Need-enum-told-4
+enum-told-4 c = search needs
+
 enum-known-reason : tie.Need-enum-known-reason
 enum-known-reason c = search needs
 
@@ -27,7 +30,10 @@ returns-3 : tie.Need-returns-3
 returns-3 c = search needs
 
 returns-4 : tie.Need-returns-4
-returns-4 c = ap kindIn (sym (c .before .reason .given .1))
+returns-4 c = search needs
+
+returns-5 : tie.Need-returns-5
+returns-5 c = ap kindIn (sym (c .before .reason .given .1))
 
 pub kind-of-spec : {M : Type 1} → statement M
 kind-of-spec =
@@ -36,8 +42,10 @@ kind-of-spec =
     enum-told
     enum-told-2
     enum-told-3
+    enum-told-4
     enum-known-reason
     returns
     returns-2
     returns-3
-    returns-4)
+    returns-4
+    returns-5)
