@@ -11,7 +11,7 @@ use Rattle.files.specs.Samples.{sampleCount, samplesOf}
 use Rattle.reason.specs.declared.Side.{Side}
 use Rattle.reason.specs.declared.Side.the-variants.{Left, Right, Top, Bottom}
 use Rattle.reason.specs.declared.Reason.{Reason}
-use Rattle.reason.specs.declared.Reason.the-variants.{Dark, Beaten, Edge, Measured}
+use Rattle.reason.specs.declared.Reason.the-variants.{Dark, Beaten, Edge, Lone, Measured}
 use Rattle.reason.specs.declared.Explanation.{Explanation}
 use Rattle.reason.specs.declared.Explanation.the-variants.{Refused, Given}
 use Rattle.reason.specs.Reason.{explanationOf}
@@ -31,6 +31,10 @@ sideLine Right = ascii "edge right\n"
 sideLine Top = ascii "edge top\n"
 sideLine Bottom = ascii "edge bottom\n"
 
+-- the largest sample among the eight neighbours
+unfoldable pub loneLine : ℕ → List ℕ
+loneLine largest = labelled "lone " largest ++ ascii "\n"
+
 -- position and brightness
 unfoldable pub measuredLine : Centroid → List ℕ
 measuredLine c = labelled "measured " (c .x) ++ labelled " " (c .y) ++ labelled " " (c .brightness) ++ ascii "\n"
@@ -39,6 +43,7 @@ abbrev pub reasonLine : Reason → List ℕ
 reasonLine (Dark sample threshold) = pairLine (ascii "dark ") sample threshold
 reasonLine (Beaten row column) = pairLine (ascii "beaten ") row column
 reasonLine (Edge side) = sideLine side
+reasonLine (Lone largest) = loneLine largest
 reasonLine (Measured c) = measuredLine c
 
 abbrev pub explanationLine : Explanation → List ℕ

@@ -10,7 +10,7 @@ ghost use Prim.Native.Nat.{_+_, _≤_};
 ghost use lib.ListN.{length};
 ghost use Rattle.text.specs.Room.{roomWith, lengthIn};
 ghost use Rattle.text.specs.Written.{Wrote};
-ghost use Rattle.desk_lines.specs.Why.{pairLine, sideLine, measuredLine, reasonLine, explanationLine, explainedWith, whyText};
+ghost use Rattle.desk_lines.specs.Why.{pairLine, sideLine, loneLine, measuredLine, reasonLine, explanationLine, explainedWith, whyText};
 
 // A word and two numbers.
 fn pair(room: &mut [u8], word: &[u8], a: u64, b: u64) -> usize
@@ -34,6 +34,14 @@ fn side_line(room: &mut [u8], side: Side) -> usize
     }
 }
 
+fn lone(room: &mut [u8], largest: u64) -> usize
+    ensures { λ r. ⌜ Wrote (now (room .entry)) 0 (loneLine largest) (now (room .exit)) r ⌝ }
+    ensures { λ r. ⌜ r ≤ 26 ⌝ }
+{
+    let number = text::labelled(room, 0, b"lone ", largest);
+    text::word(room, number, b"\n")
+}
+
 fn measured(room: &mut [u8], star: Centroid) -> usize
     ensures { λ r. ⌜ Wrote (now (room .entry)) 0 (measuredLine star) (now (room .exit)) r ⌝ }
     ensures { λ r. ⌜ r ≤ 72 ⌝ }
@@ -52,6 +60,7 @@ fn reason_line(room: &mut [u8], reason: Reason) -> usize
         Reason::Dark(sample, threshold) => pair(room, b"dark ", sample as u64, threshold as u64),
         Reason::Beaten(row, column) => pair(room, b"beaten ", row as u64, column as u64),
         Reason::Edge(side) => side_line(room, side),
+        Reason::Lone(largest) => lone(room, largest as u64),
         Reason::Measured(star) => measured(room, star),
     }
 }

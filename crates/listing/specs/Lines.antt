@@ -15,7 +15,7 @@ use Rattle.text.specs.Ascii.{ascii}
 use Rattle.text.specs.Decimal.{decimal, signedDecimal, labelled}
 
 unfoldable pub countsLine : Report → List ℕ
-countsLine r = labelled "measured " (r .measured) ++ labelled " edge " (r .edge) ++ ascii "\n"
+countsLine r = labelled "measured " (r .measured) ++ labelled " edge " (r .edge) ++ labelled " lone " (r .lone) ++ ascii "\n"
 
 -- the star that a word of an assignment names: its identity, and "-" for a word that is no record's number
 unfoldable pub nameOf : List ℕ → ℕ → List ℕ

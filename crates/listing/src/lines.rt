@@ -18,7 +18,8 @@ fn counts(room: &mut [u8], at: usize, report: Report) -> usize
 {
     let measured = text::labelled(room, at, b"measured ", report.measured as u64);
     let edge = text::labelled(room, measured, b" edge ", report.edge as u64);
-    text::word(room, edge, b"\n")
+    let lone = text::labelled(room, edge, b" lone ", report.lone as u64);
+    text::word(room, lone, b"\n")
 }
 
 // The identity of the star that a word names, where names are shown and it names one, else "-".

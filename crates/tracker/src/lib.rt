@@ -52,6 +52,7 @@ pub fn refused(refusal: Refusal) -> Tracked
         count: 0,
         measured: 0,
         edge: 0,
+        lone: 0,
     };
     let matrix = Matrix {
         row0: zeros,

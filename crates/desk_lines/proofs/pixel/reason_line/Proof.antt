@@ -43,6 +43,15 @@ side-line-requires c κs = search needs
 enum-known-reason-4 : tie.Need-enum-known-reason-4
 enum-known-reason-4 c = search needs
 
+cast-lone : tie.Need-cast-lone
+cast-lone c = search needs
+
+lone-requires : tie.Need-lone-requires
+lone-requires c κs = search needs
+
+enum-known-reason-5 : tie.Need-enum-known-reason-5
+enum-known-reason-5 c = search needs
+
 measured-requires : tie.Need-measured-requires
 measured-requires c κs = search needs
 
@@ -80,7 +89,16 @@ returns-4 : tie.Need-returns-4
 returns-4 c =
     let w = c .before .before in
     let t : tie.After-reason4 = search needs in
-    (told (t .reason4 .given .1) (w .measured .ensures .0), omega (arith, w .measured .ensures .1))
+    (told (t .reason4 .given .1) (w .lone .ensures .0), omega (arith, w .lone .ensures .1))
+
+same-length-5 : tie.Need-same-length-5
+same-length-5 c = search needs
+
+returns-5 : tie.Need-returns-5
+returns-5 c =
+    let w = c .before .before in
+    let t : tie.After-reason5 = search needs in
+    (told (t .reason5 .given .1) (w .measured .ensures .0), omega (arith, w .measured .ensures .1))
 
 pub reason-line-spec : {M : Type 1} → statement M
 reason-line-spec =
@@ -96,6 +114,9 @@ reason-line-spec =
     enum-known-reason-3
     side-line-requires
     enum-known-reason-4
+    cast-lone
+    lone-requires
+    enum-known-reason-5
     measured-requires
     same-length
     returns
@@ -104,4 +125,6 @@ reason-line-spec =
     same-length-3
     returns-3
     same-length-4
-    returns-4)
+    returns-4
+    same-length-5
+    returns-5)

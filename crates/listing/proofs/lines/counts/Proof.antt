@@ -18,6 +18,12 @@ slice-aggregate-labelled-2 c = search needs
 labelled-requires-2 : tie.Need-labelled-requires-2
 labelled-requires-2 c κs = search needs
 
+slice-aggregate-labelled-3 : tie.Need-slice-aggregate-labelled-3
+slice-aggregate-labelled-3 c = search needs
+
+labelled-requires-3 : tie.Need-labelled-requires-3
+labelled-requires-3 c κs = search needs
+
 slice-aggregate-word : tie.Need-slice-aggregate-word
 slice-aggregate-word c = search needs
 
@@ -30,10 +36,11 @@ same-length c = search needs
 returns : tie.Need-returns
 unfolding countsLine
 returns c =
-    let w3 = c .before .before in
+    let w4 = c .before .before in
+    let w3 = w4 .before .before .before .before .before in
     let w2 = w3 .before .before .before .before .before in
     let w1 = w2 .before .before .before .before .before in
-    (wrote-then (wrote-then (w1 .labelled .ensures .0) (w2 .labelled2 .ensures .0)) (w3 .word .ensures), omega (arith, w1 .labelled .ensures .1, w2 .labelled2 .ensures .1, w3 .word .ensures .place))
+    (wrote-then (wrote-then (wrote-then (w1 .labelled .ensures .0) (w2 .labelled2 .ensures .0)) (w3 .labelled3 .ensures .0)) (w4 .word .ensures), omega (arith, w1 .labelled .ensures .1, w2 .labelled2 .ensures .1, w3 .labelled3 .ensures .1, w4 .word .ensures .place))
 
 pub counts-spec : {M : Type 1} → statement M
 counts-spec =
@@ -43,6 +50,8 @@ counts-spec =
     labelled-requires
     slice-aggregate-labelled-2
     labelled-requires-2
+    slice-aggregate-labelled-3
+    labelled-requires-3
     slice-aggregate-word
     word-requires
     same-length
