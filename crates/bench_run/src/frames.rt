@@ -1,5 +1,5 @@
-// Cases A to F: verdicts on pixels of 7 x 7 frames, and the counts of each frame's list.
-ghost use Prim.Native.Nat.{_≤_};
+// Cases A to F and T to W: verdicts on pixels of 7 x 7 frames, and the counts of each frame's list.
+ghost use Prim.Native.Nat.{_<_, _≤_};
 use crate::say;
 use frame::Judgement;
 use refusal::Outcome;
@@ -10,6 +10,7 @@ fn kind(kind: Kind) {
         Kind::Dark => say::text(b" dark"),
         Kind::Beaten => say::text(b" beaten"),
         Kind::Edge => say::text(b" edge"),
+        Kind::Lone => say::text(b" lone"),
         Kind::Measured(star) => {
             say::text(b" measured");
             say::number(star.x);
@@ -36,7 +37,7 @@ fn pixel(letter: &[u8], samples: &[u16], threshold: usize, row: usize, column: u
     say::end();
 }
 
-// How many pixels of the frame are measured and edge.
+// How many pixels of the frame are measured, edge and lone.
 fn counts(letter: &[u8], samples: &[u16], threshold: usize) {
     say::text(letter);
     let listing = frame::list(samples, 7, 7, threshold);
@@ -48,6 +49,7 @@ fn counts(letter: &[u8], samples: &[u16], threshold: usize) {
             say::text(b" counts");
             say::number(report.measured as u64);
             say::number(report.edge as u64);
+            say::number(report.lone as u64);
         }
     }
     say::end();
@@ -89,11 +91,23 @@ fn beaten(letter: &[u8], samples: &[u16], threshold: usize) {
     say::end();
 }
 
-fn case_a() {
+// A peak of 100 in the middle.
+fn peak(letter: &[u8], threshold: usize) {
     let mut samples = [0u16; 49];
     samples[24] = 100;
-    pixel(b"A", &samples, 50, 3, 3);
-    counts(b"A", &samples, 50);
+    pixel(letter, &samples, threshold, 3, 3);
+    counts(letter, &samples, threshold);
+}
+
+// The same with one other sample.
+fn peak_with(letter: &[u8], place: usize, sample: u16, threshold: usize)
+    requires { ⌜ place < 49 ⌝ }
+{
+    let mut samples = [0u16; 49];
+    samples[24] = 100;
+    samples[place] = sample;
+    pixel(letter, &samples, threshold, 3, 3);
+    counts(letter, &samples, threshold);
 }
 
 fn case_b() {
@@ -103,22 +117,6 @@ fn case_b() {
     pixel(b"B", &samples, 50, 3, 3);
     pixel(b"B", &samples, 50, 3, 4);
     counts(b"B", &samples, 50);
-}
-
-fn case_c() {
-    let mut samples = [0u16; 49];
-    samples[24] = 100;
-    samples[23] = 50;
-    pixel(b"C", &samples, 50, 3, 3);
-    counts(b"C", &samples, 50);
-}
-
-fn case_d() {
-    let mut samples = [0u16; 49];
-    samples[24] = 100;
-    samples[0] = 24;
-    pixel(b"D", &samples, 50, 3, 3);
-    counts(b"D", &samples, 50);
 }
 
 fn case_e() {
@@ -136,10 +134,27 @@ fn case_f() {
 }
 
 pub fn run() {
-    case_a();
+    peak(b"A", 50);
     case_b();
-    case_c();
-    case_d();
+    peak_with(b"C", 23, 50, 50);
+    peak_with(b"D", 0, 24, 50);
     case_e();
     case_f();
+}
+
+fn case_t() {
+    let mut samples = [0u16; 49];
+    samples[24] = 100;
+    samples[23] = 50;
+    samples[25] = 50;
+    samples[0] = 24;
+    pixel(b"T", &samples, 50, 3, 3);
+    counts(b"T", &samples, 50);
+}
+
+pub fn run_lone() {
+    case_t();
+    peak_with(b"U", 16, 25, 51);
+    peak_with(b"V", 16, 24, 51);
+    peak(b"W", 1);
 }

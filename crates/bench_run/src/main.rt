@@ -6,4 +6,5 @@ mod sky;
 fn main() {
     frames::run();
     sky::run();
+    frames::run_lone();
 }

@@ -16,12 +16,13 @@ use Rattle.refusal.specs.Table.{lowest}
 use Rattle.refusal.specs.Laws.{Silent}
 use Rattle.counting.specs.First.{first, firstFrom}
 use Rattle.window.specs.Window.{some-below, earlier, beats, beaten}
+use Rattle.neighbours.specs.Neighbours.{lone}
 use Rattle.centroid.specs.Sums.{sum-below, sumℤ-below}
 use Rattle.centroid.specs.Border.{borderSum}
 use Rattle.centroid.specs.Centroid.{brightness, shiftX, shiftY, centroidOf}
 use Rattle.verdict.specs.Verdict.{edge, peakKind, kindOf, kindNumber}
 use Rattle.verdict.specs.declared.Kind.{Kind}
-use Rattle.verdict.specs.declared.Kind.the-variants.{Dark, Beaten, Edge, Measured}
+use Rattle.verdict.specs.declared.Kind.the-variants.{Dark, Beaten, Edge, Lone, Measured}
 use Rattle.frame.specs.Input.{firstOver}
 use Rattle.frame.specs.Calls.{judgementOf}
 use Rattle.frame.specs.CallsLaws.{judge-accepted}
@@ -70,6 +71,7 @@ beaten-kind : (kind : Kind) → eqb (kindNumber kind) 1 ≡ true → kind ≡ Be
 beaten-kind Dark e = never e
 beaten-kind Beaten e = refl
 beaten-kind Edge e = never e
+beaten-kind Lone e = never e
 beaten-kind (Measured c) e = never e
 
 rest-beaten : (r c : ℕ) → r < side → c < side → ((r ≡ 0) × (c ≡ 0) → ⊥) → judgementOf even side side 4095 r c ≡ judgedAs r c Beaten
@@ -113,7 +115,7 @@ only {directions} {bytes} {needed} {tolerance} {words} e = (e, λ r h. identifie
 
 -- A to F
 verdicts-hold : AllHold (drop 8 table) → AllHold table
-unfolding table lowest judgementOf firstOver first firstFrom kindOf peakKind edge beaten beats earlier some-below
+unfolding table lowest judgementOf firstOver first firstFrom kindOf peakKind edge lone beaten beats earlier some-below
     centroidOf brightness shiftX shiftY sum-below sumℤ-below borderSum
 verdicts-hold below = (refl, (refl, (refl, (refl, (refl, (refl, (refl, (rest-beaten, below))))))))
 
@@ -131,12 +133,18 @@ unfolding table
 attitudes-hold below = (case-I, (case-J, (case-K, below)))
 
 -- L to S
-searches-hold : AllHold (drop 13 table)
+searches-hold : AllHold (drop 21 table) → AllHold (drop 13 table)
 unfolding table lowest identificationOf padTo refusals.refusalsOf refusals.rowsBeside refusals.demandOk lentOf clash first firstFrom some all
     listOk allWithin
     catalogue.refusalsOf catalogue.lengthOk catalogue.brokenOf recordOk directionOk identityRises componentOf identityOf numberAt signedOf starsOf starsTo
     firstFit run row assigned standing pairsAndThrees pairs threes agreement agreeing pairDot mirroring mirrored tripleOf tripleAt
-searches-hold = (only refl, (only refl, (only refl, (only refl, (only refl, (only refl, (only refl, (only refl, tt))))))))
+searches-hold below = (only refl, (only refl, (only refl, (only refl, (only refl, (only refl, (only refl, (only refl, below))))))))
+
+-- T to W
+lone-hold : AllHold (drop 21 table)
+unfolding table lowest judgementOf firstOver first firstFrom kindOf peakKind edge lone beaten beats earlier some-below
+    centroidOf brightness shiftX shiftY sum-below sumℤ-below borderSum
+lone-hold = (refl, (refl, (refl, (refl, tt))))
 
 pub bench : AllHold table
-bench = verdicts-hold (directions-hold (attitudes-hold searches-hold))
+bench = verdicts-hold (directions-hold (attitudes-hold (searches-hold lone-hold)))

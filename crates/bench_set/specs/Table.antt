@@ -1,12 +1,13 @@
--- Document 01, "The bench set": cases A to O, one under the other, with the numbers that stand there, and P to S for T-03's rule over threes. Where a case
--- names only some numbers of a verdict the rest follow from the same rules, worked out by hand. Assumes nothing.
+-- Document 01, "The bench set": cases A to O, one under the other, with the numbers that stand there, A and D lone as T-06 has them, P to S for T-03's
+-- rule over threes, and T to W for T-06's rule. Where a case names only some numbers of a verdict the rest follow from the same rules, worked out by
+-- hand. Assumes nothing.
 use mathlib.Core.List.{List, [], _∷_, _++_}
 use Prim.Native.Nat.{ℕ}
 use lib.IntN.{ℤ, pos, negℤ}
 use Rattle.refusal.specs.declared.Outcome.the-variants.{Accepted}
 use Rattle.vectors.specs.declared.Vec3.{Vec3}
 use Rattle.verdict.specs.declared.Kind.{Kind}
-use Rattle.verdict.specs.declared.Kind.the-variants.{Beaten, Edge, Measured}
+use Rattle.verdict.specs.declared.Kind.the-variants.{Beaten, Edge, Lone, Measured}
 use Rattle.direction.specs.declared.Direction.{Direction}
 use Rattle.direction.specs.declared.Direction.the-variants as toward
 use Rattle.attitude.specs.declared.Attitude.{Attitude}
@@ -127,14 +128,14 @@ falling = 2 ∷ 1 ∷ 0 ∷ []
 unfoldable pub table : List Case
 table =
     -- A
-    pixel (frameOf (lit 3 3 100 ∷ [])) 50 3 3 (measured 768 768 2400)
+    pixel (frameOf (lit 3 3 100 ∷ [])) 50 3 3 Lone
     -- B
     ∷ pixel (frameOf (lit 3 3 100 ∷ lit 3 4 100 ∷ [])) 50 3 3 (measured 896 768 4800)
     ∷ pixel (frameOf (lit 3 3 100 ∷ lit 3 4 100 ∷ [])) 50 3 4 Beaten
     -- C
     ∷ pixel (frameOf (lit 3 3 100 ∷ lit 3 2 50 ∷ [])) 50 3 3 (measured 683 768 3600)
     -- D
-    ∷ pixel (frameOf (lit 3 3 100 ∷ lit 0 0 24 ∷ [])) 50 3 3 (measured 768 768 2376)
+    ∷ pixel (frameOf (lit 3 3 100 ∷ lit 0 0 24 ∷ [])) 50 3 3 Lone
     -- E
     ∷ pixel (frameOf (lit 3 2 100 ∷ [])) 50 3 2 Edge
     -- F
@@ -179,4 +180,12 @@ table =
     -- S: 10^12 - 1, which is 999,999 x (1,000,000 x 1 - 1 x -1), and -10^12 do
     ∷ search (three (pos 999999000) (pos 0) (pos 0) ++ three (pos 0) (pos 1000000000) (pos 1000) ++ three (pos 1000000000) (minus 1000) (pos 1000)) leastTurn′ 3 10000000000000
     (rising ++ rising ++ rising) (stars (0 ∷ 1 ∷ 2 ∷ []))
+    -- T: D with light on the left and right. S is 24, the weights 2,400 - 24 and twice 1,200 - 24
+    ∷ pixel (frameOf (lit 3 3 100 ∷ lit 3 2 50 ∷ lit 3 4 50 ∷ lit 0 0 24 ∷ [])) 50 3 3 (measured 768 768 4728)
+    -- U: half of 51 is 25, which a neighbour at a corner reaches. B is 2,400 + 600; 256 x -600 / 3,000 is -51
+    ∷ pixel (frameOf (lit 3 3 100 ∷ lit 2 2 25 ∷ [])) 51 3 3 (measured 717 717 3000)
+    -- V: which 24 does not
+    ∷ pixel (frameOf (lit 3 3 100 ∷ lit 2 2 24 ∷ [])) 51 3 3 Lone
+    -- W: A with threshold 1, whose half is 0
+    ∷ pixel (frameOf (lit 3 3 100 ∷ [])) 1 3 3 (measured 768 768 2400)
     ∷ []
