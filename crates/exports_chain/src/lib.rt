@@ -20,8 +20,8 @@ pub fn of_chain(tracked: Tracked, stars: usize) -> [i64; 64]
     let words = tracked.stars;
     let matrix = tracked.matrix;
     let count = report.count;
-    let named = put_names(of_report(report), 29, words, count, stars);
-    of_outcome(outcome, put_matrix(named, 37, matrix))
+    let named = put_names(of_report(report), 30, words, count, stars);
+    of_outcome(outcome, put_matrix(named, 38, matrix))
 }
 
 // The whole chain: the frame's list, the stars that it shows, and the attitude.

@@ -3,7 +3,7 @@ use mathlib.Core.List.{List, _∷_}
 use lib.IntN.{ℤ}
 use Rattle.centroid.specs.declared.Centroid.{Centroid}
 use Rattle.verdict.specs.declared.Kind.{Kind}
-use Rattle.verdict.specs.declared.Kind.the-variants.{Dark, Beaten, Edge, Measured}
+use Rattle.verdict.specs.declared.Kind.the-variants.{Dark, Beaten, Edge, Lone, Measured}
 use Rattle.verdict.specs.declared.Verdict.{Verdict}
 use Rattle.verdict.specs.Verdict.{kindNumber}
 use Rattle.frame.specs.declared.Judgement.{Judgement}
@@ -19,6 +19,7 @@ abbrev pub centroidIn : Kind → Centroid
 centroidIn Dark = nought
 centroidIn Beaten = nought
 centroidIn Edge = nought
+centroidIn Lone = nought
 centroidIn (Measured c) = c
 
 abbrev pub judgedNumbers : Verdict → List ℤ
@@ -28,9 +29,9 @@ abbrev pub verdictNumbers : Judgement → List ℤ
 verdictNumbers (Refused r) = refusedNumbers r
 verdictNumbers (Judged v) = judgedNumbers v
 
--- how many stars are listed, how many pixels are measured and edge, and the stars
+-- how many stars are listed, how many pixels are measured, edge and lone, and the stars
 abbrev pub reportNumbers : Report → List ℤ
-reportNumbers r = signedOf (r .count) ∷ (signedOf (r .measured) ∷ (signedOf (r .edge) ∷ starsNumbers (r .stars)))
+reportNumbers r = signedOf (r .count) ∷ (signedOf (r .measured) ∷ (signedOf (r .edge) ∷ (signedOf (r .lone) ∷ starsNumbers (r .stars))))
 
 abbrev pub listingNumbers : Listing → List ℤ
 listingNumbers l = outcomeNumbers (l .outcome) (acceptedNumbers (reportNumbers (l .report)))

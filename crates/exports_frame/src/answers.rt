@@ -36,6 +36,7 @@ fn centroid_in(kind: Kind) -> Centroid
         Kind::Dark => nought(),
         Kind::Beaten => nought(),
         Kind::Edge => nought(),
+        Kind::Lone => nought(),
         Kind::Measured(centroid) => centroid,
     }
 }
@@ -81,7 +82,7 @@ pub(crate) fn of_explanation(explanation: Explanation) -> [i64; 64]
     }
 }
 
-// A frame's list: how many stars it has, the two counts, and the stars.
+// A frame's list: how many stars it has, the three counts, and the stars.
 pub fn of_report(report: Report) -> [i64; 64]
     ensures { λ r. ⌜ r ≡ acceptedNumbers (reportNumbers report) ⌝ }
 {
@@ -90,6 +91,7 @@ pub fn of_report(report: Report) -> [i64; 64]
     flat[2] = signed(report.count as u64);
     flat[3] = signed(report.measured as u64);
     flat[4] = signed(report.edge as u64);
+    flat[5] = signed(report.lone as u64);
     put_stars(flat, stars)
 }
 

@@ -34,10 +34,10 @@ namesNumbers words directions stars = joined (λ (i : ℕ). nameAt words directi
 abbrev pub withStar : List ℤ → ℕ → Centroid → List ℤ
 withStar xs i s = set (set (set xs i (signedOf (s .x))) (i + 1) (signedOf (s .y))) (i + 2) (signedOf (s .brightness))
 
--- n stars from place 5 on
+-- n stars from place 6 on
 unfoldable pub withStars : List Centroid → ℕ → List ℤ → List ℤ
 withStars stars zero xs = xs
-withStars stars (suc n) xs = withStar (withStars stars n xs) (5 + 3 * n) (getD stars n nought)
+withStars stars (suc n) xs = withStar (withStars stars n xs) (6 + 3 * n) (getD stars n nought)
 
 -- the stars of n directions from a place on
 unfoldable pub withNames : ℕ → List ℕ → ℕ → ℕ → ℕ → List ℤ → List ℤ

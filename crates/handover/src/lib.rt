@@ -107,7 +107,7 @@ pub fn put_star(flat: [i64; 64], at: usize, star: Centroid) -> [i64; 64]
     put
 }
 
-// A frame's eight stars from place 5 on.
+// A frame's eight stars from place 6 on.
 pub fn put_stars(flat: [i64; 64], stars: [Centroid; 8]) -> [i64; 64]
     ensures { λ r. ⌜ r ≡ withStars stars 8 flat ⌝ }
 {
@@ -115,7 +115,7 @@ pub fn put_stars(flat: [i64; 64], stars: [Centroid; 8]) -> [i64; 64]
     let mut k: usize = 0;
     while k < 8 {
         let star = stars[k];
-        let next = put_star(put, 5 + 3 * k, star);
+        let next = put_star(put, 6 + 3 * k, star);
         put = next;
         k += 1;
     }

@@ -60,7 +60,7 @@ pub fn list(fd: i32, bytes: &mut [u8], samples: &mut [u16]) {
     let n = read_words(fd, bytes, samples);
     let mut out = [0i64; 64];
     exports_frame::mnemathor_list(&samples[0..n], width, height, threshold, &mut out);
-    print_call(2, &out, 29);
+    print_call(2, &out, 30);
     print_end();
 }
 
@@ -164,7 +164,7 @@ fn print_chain(
         room,
         &mut out,
     );
-    print_call(8, &out, 46);
+    print_call(8, &out, 47);
     print_more(before);
     print_more(checksum(room));
     print_end();
@@ -292,7 +292,7 @@ fn print_chain_by_index(
         room,
         &mut out,
     );
-    print_call(12, &out, 46);
+    print_call(12, &out, 47);
     print_more(before);
     print_more(checksum(room));
     print_end();

@@ -32,8 +32,8 @@ returns c =
     c .of-outcome .ensures
     ∙ ap (outcomeNumbers (t .outcome))
     (matrix .put-matrix .ensures
-    ∙ ap (λ (xs : List ℤ). withMatrix xs 37 (t .matrix))
-    (names .put-names .ensures ∙ ap (λ (xs : List ℤ). withNames 29 (t .stars) (t .report .count) (a .stars) 8 xs) (report .of-report .ensures)))
+    ∙ ap (λ (xs : List ℤ). withMatrix xs 38 (t .matrix))
+    (names .put-names .ensures ∙ ap (λ (xs : List ℤ). withNames 30 (t .stars) (t .report .count) (a .stars) 8 xs) (report .of-report .ensures)))
 
 pub of-chain-spec : {M : Type 1} → statement M
 of-chain-spec =

@@ -19,7 +19,7 @@ Inv-loop stars put₀ k₀ put k = (k ≤ 8) × (put ≡ withStars stars k put�
 abbrev μ-loop : tie.MeasureT-loop
 μ-loop stars put₀ k₀ put k = 8 - k
 
-stars-next : (stars : List Centroid) (k : ℕ) (xs : List ℤ) → withStars stars (k + 1) xs ≡ withStar (withStars stars k xs) (5 + 3 * k) (getD stars k nought)
+stars-next : (stars : List Centroid) (k : ℕ) (xs : List ℤ) → withStars stars (k + 1) xs ≡ withStar (withStars stars k xs) (6 + 3 * k) (getD stars k nought)
 unfolding withStars
 stars-next stars k xs = rw add-one refl
 
@@ -52,7 +52,7 @@ loop-again : tie.Need-loop-again Inv-loop μ-loop
 loop-again c =
     let l = c .before .before .before .loop in
     let a = c .before .before .before .before .args in
-    (search needs, c .put-star .ensures ∙ ap (λ (xs : List ℤ). withStar xs (5 + 3 * l .k) (getD (a .t2) (l .k) nought)) (l .inv .1) ∙ sym (stars-next (a .t2) (l .k) (a .flat)))
+    (search needs, c .put-star .ensures ∙ ap (λ (xs : List ℤ). withStar xs (6 + 3 * l .k) (getD (a .t2) (l .k) nought)) (l .inv .1) ∙ sym (stars-next (a .t2) (l .k) (a .flat)))
 
 returns : tie.Need-returns Inv-loop μ-loop
 returns c =

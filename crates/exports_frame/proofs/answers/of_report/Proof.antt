@@ -27,13 +27,20 @@ signed-requires-3 c κs = search needs
 array-set-from-flat-3 : tie.Need-array-set-from-flat-3
 array-set-from-flat-3 c = search needs
 
+signed-requires-4 : tie.Need-signed-requires-4
+signed-requires-4 c κs = search needs
+
+array-set-from-flat-4 : tie.Need-array-set-from-flat-4
+array-set-from-flat-4 c = search needs
+
 put-stars-requires : tie.Need-put-stars-requires
 put-stars-requires c κs = search needs
 
 returns : tie.Need-returns
 unfolding joined withStars
 returns c =
-    let c3 = c .before in
+    let c4 = c .before in
+    let c3 = c4 .before in
     let c2 = c3 .before in
     let c1 = c2 .before in
     c .put-stars .ensures
@@ -44,7 +51,7 @@ returns c =
     (acceptedNumbers
     (kept w64 (c1 .signed .ok) (c1 .signed .ensures) i
     ∷ (kept w64 (c2 .signed2 .ok) (c2 .signed2 .ensures) i
-    ∷ (kept w64 (c3 .signed3 .ok) (c3 .signed3 .ensures) i ∷ [])))))
+    ∷ (kept w64 (c3 .signed3 .ok) (c3 .signed3 .ensures) i ∷ (kept w64 (c4 .signed4 .ok) (c4 .signed4 .ensures) i ∷ []))))))
 
 pub of-report-spec : {M : Type 1} → statement M
 of-report-spec =
@@ -56,5 +63,7 @@ of-report-spec =
     array-set-from-flat-2
     signed-requires-3
     array-set-from-flat-3
+    signed-requires-4
+    array-set-from-flat-4
     put-stars-requires
     returns)
