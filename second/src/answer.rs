@@ -32,6 +32,7 @@ pub enum Kind {
     Dark,
     Beaten,
     Edge,
+    Lone,
     Measured(Centroid),
 }
 
@@ -41,7 +42,8 @@ impl Kind {
             Kind::Dark => 0,
             Kind::Beaten => 1,
             Kind::Edge => 2,
-            Kind::Measured(_) => 3,
+            Kind::Lone => 3,
+            Kind::Measured(_) => 4,
         }
     }
 }
@@ -76,6 +78,10 @@ pub enum Reason {
     },
     /// The first side that is too near.
     Edge(Side),
+    /// The largest sample among its eight neighbours.
+    Lone {
+        largest: i64,
+    },
     Measured(Centroid),
 }
 
@@ -85,6 +91,7 @@ pub struct List {
     pub stars: Vec<Centroid>,
     pub measured: usize,
     pub edge: usize,
+    pub lone: usize,
 }
 
 pub type Vector = [i64; 3];
@@ -140,7 +147,8 @@ impl Answer for Reason {
             Reason::Dark { sample, threshold } => (0, [sample, threshold, 0]),
             Reason::Beaten { row, column } => (1, [row as i64, column as i64, 0]),
             Reason::Edge(side) => (2, [side as i64, 0, 0]),
-            Reason::Measured(star) => (3, [star.x, star.y, star.brightness]),
+            Reason::Lone { largest } => (3, [largest, 0, 0]),
+            Reason::Measured(star) => (4, [star.x, star.y, star.brightness]),
         };
         out[2] = kind;
         out[3..6].copy_from_slice(&values);
@@ -152,8 +160,9 @@ impl Answer for List {
         out[2] = self.stars.len() as i64;
         out[3] = self.measured as i64;
         out[4] = self.edge as i64;
+        out[5] = self.lone as i64;
         for (k, star) in self.stars.iter().enumerate() {
-            out[5 + 3 * k..8 + 3 * k].copy_from_slice(&[star.x, star.y, star.brightness]);
+            out[6 + 3 * k..9 + 3 * k].copy_from_slice(&[star.x, star.y, star.brightness]);
         }
     }
 }
@@ -199,8 +208,8 @@ impl Answer for Solution {
     fn fill(&self, out: &mut Numbers) {
         self.list.fill(out);
         for (i, star) in self.assignment.iter().enumerate() {
-            out[29 + i] = star_number(*star);
+            out[30 + i] = star_number(*star);
         }
-        out[37..46].copy_from_slice(self.matrix.as_flattened());
+        out[38..47].copy_from_slice(self.matrix.as_flattened());
     }
 }

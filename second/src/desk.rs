@@ -22,6 +22,7 @@ fn reason_line(reason: Reason) -> String {
         Reason::Dark { sample, threshold } => format!("dark {sample} {threshold}\n"),
         Reason::Beaten { row, column } => format!("beaten {row} {column}\n"),
         Reason::Edge(side) => format!("edge {}\n", side_name(side)),
+        Reason::Lone { largest } => format!("lone {largest}\n"),
         Reason::Measured(star) => format!("measured {} {} {}\n", star.x, star.y, star.brightness),
     }
 }

@@ -69,12 +69,13 @@ impl<'a> Frame<'a> {
 
     /// The measured pixels by falling brightness, equal ones in row order, and the counts of the frame.
     pub fn list(&self) -> List {
-        let mut list = List { stars: Vec::new(), measured: 0, edge: 0 };
+        let mut list = List { stars: Vec::new(), measured: 0, edge: 0, lone: 0 };
         for row in 0..self.height {
             for column in 0..self.width {
                 match self.verdict(row, column).kind {
                     Kind::Dark | Kind::Beaten => {}
                     Kind::Edge => list.edge += 1,
+                    Kind::Lone => list.lone += 1,
                     Kind::Measured(star) => {
                         list.measured += 1;
                         list.stars.push(star);
@@ -95,6 +96,8 @@ impl<'a> Frame<'a> {
             Kind::Beaten
         } else if self.broken_side(row, column).is_some() {
             Kind::Edge
+        } else if self.is_lone(row, column) {
+            Kind::Lone
         } else {
             Kind::Measured(self.measure(row, column))
         };
@@ -111,6 +114,9 @@ impl<'a> Frame<'a> {
         }
         if let Some(side) = self.broken_side(row, column) {
             return Reason::Edge(side);
+        }
+        if self.is_lone(row, column) {
+            return Reason::Lone { largest: narrow(self.largest_neighbour(row, column)) };
         }
         Reason::Measured(self.measure(row, column))
     }
@@ -151,6 +157,24 @@ impl<'a> Frame<'a> {
             (Side::Bottom, self.height - 1 - row),
         ];
         between.into_iter().find(|&(_, pixels)| pixels < 3).map(|(side, _)| side)
+    }
+
+    /// None of the eight neighbours of a pixel that is not at the edge reaches half the threshold, rounded down.
+    fn is_lone(&self, row: i128, column: i128) -> bool {
+        self.largest_neighbour(row, column) < self.threshold / 2
+    }
+
+    /// The largest sample among the eight neighbours of a pixel that is not at the edge.
+    fn largest_neighbour(&self, row: i128, column: i128) -> i128 {
+        let mut largest = 0;
+        for down in -1..=1 {
+            for right in -1..=1 {
+                if (down, right) != (0, 0) {
+                    largest = largest.max(self.sample(row + down, column + right));
+                }
+            }
+        }
+        largest
     }
 
     /// Position and brightness of a pixel that is neither beaten nor at the edge. Its brightness is above 0: no

@@ -54,25 +54,29 @@ fn made(len: usize, mut element: impl FnMut() -> u16) -> Vec<u16> {
     (0..len).map(|_| element()).collect()
 }
 
-/// Draws a star whose middle lies at x, y (in 1/256 pixel): the pixel it lies in, and a share of its
-/// light in the neighbours on the side it leans to.
+/// Draws a star whose middle lies at x, y (in 1/256 pixel). Its light falls off evenly over a pixel and a half on
+/// every side, so that some always reaches a neighbour; the faintest is left out.
 pub fn draw_star(call: &mut Call, x: i64, y: i64, peak: i64) {
     let (column, lean_x) = nearest_pixel(x);
     let (row, lean_y) = nearest_pixel(y);
-    let share = |lean: i64, step: i64| match step {
-        0 => 256,
-        _ if step == lean.signum() => 256 * lean.abs() / (256 - lean.abs()),
-        _ => 0,
-    };
+    let share = |lean: i64, step: i64| (384 - (256 * step - lean).abs()).max(0);
     for down in -1..=1 {
         for right in -1..=1 {
             let (r, c) = (row + down, column + right);
-            let light = peak * share(lean_x, right) / 256 * share(lean_y, down) / 256;
+            let light = peak * share(lean_x, right) * share(lean_y, down) / (384 * 384);
             let inside = r >= 0 && c >= 0 && r < call.height as i64 && c < call.width as i64;
-            if inside && light > 0 {
+            if inside && light > peak / 8 {
                 set_pixel(call, r as usize, c as usize, light as u16);
             }
         }
+    }
+}
+
+/// Lights single pixels, as a camera does after an hour in the cold.
+pub fn add_hot_pixels(random: &Random, call: &mut Call, count: usize) {
+    for _ in 0..count {
+        let (row, column) = (random.below(call.height as usize), random.below(call.width as usize));
+        set_pixel(call, row, column, random.pick(&[70, 1_000, 4_095]));
     }
 }
 
@@ -452,6 +456,7 @@ pub fn star_field(random: &Random, entry: Entry, most_stars: usize, brightnesses
         let y = random.between(0, 256 * (height as i64 - 1));
         draw_star(&mut call, x, y, 4_095 - 300 * random.below(brightnesses) as i64);
     }
+    add_hot_pixels(random, &mut call, random.pick(&[0, 0, 2, 10]));
     call
 }
 
@@ -583,6 +588,7 @@ fn any_chain(random: &Random) -> Call {
         background: random.chance(40),
     };
     let mut call = scene.call(random);
+    add_hot_pixels(random, &mut call, random.pick(&[0, 0, 0, 1, 3]));
     match random.below(10) {
         // Another sky: most often nothing fits.
         0 => {

@@ -43,7 +43,7 @@ fn chain_listing(settings: &Settings, samples: &[u16], catalogue: &[u8]) -> Stri
 /// The counts, then a line for each star: number, position, brightness, identity.
 fn first_lines(list: &List, assignment: &Assignment, catalogue: &[u8]) -> String {
     let records = catalogue::read(catalogue).expect("the chain accepted the catalogue");
-    let mut lines = format!("measured {} edge {}\n", list.measured, list.edge);
+    let mut lines = format!("measured {} edge {} lone {}\n", list.measured, list.edge, list.lone);
     for (k, (star, record)) in list.stars.iter().zip(assignment).enumerate() {
         let identity = record.map_or("-".to_string(), |record| records[record].identity.to_string());
         lines += &format!("{k} {} {} {} {identity}\n", star.x, star.y, star.brightness);

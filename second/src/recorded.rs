@@ -325,6 +325,64 @@ fn verdicts(random: &Random, calls: &mut Vec<Call>) {
     vary(calls, &sound, &HUGE, |call, row| call.row = row);
     vary(calls, &sound, &HUGE, |call, column| call.column = column);
     frame_reasons(random, calls, Entry::Verdict);
+    calls.extend(lone_and_not(random, Entry::Verdict));
+    calls.extend((0..40).map(|_| bright_border(random, Entry::Verdict)));
+}
+
+/// A peak with one other pixel, at each place around it, just below half the threshold, at it and just above it:
+/// only the eight beside the peak save it from being lone. Every threshold that rounds in its own way.
+fn lone_and_not(random: &Random, entry: Entry) -> Vec<Call> {
+    let mut calls = Vec::new();
+    for (threshold, near) in [
+        (1, [0, 1]),
+        (2, [0, 1]),
+        (3, [0, 1]),
+        (4, [1, 2]),
+        (50, [24, 25]),
+        (51, [24, 25]),
+        (4_095, [2_046, 2_047]),
+    ] {
+        for beside in near {
+            for (down, right) in every_pixel(&dark_frame(entry, 5, 5, 1)) {
+                // All places where it matters, some of those where it does not.
+                let inner = (1..4).contains(&down) && (1..4).contains(&right);
+                if !inner && !random.chance(20) {
+                    continue;
+                }
+                let mut call = dark_frame(entry, 9, 8, threshold);
+                set_pixel(&mut call, down + 2, right + 2, beside);
+                set_pixel(&mut call, 4, 4, random.pick(&[threshold as u16, 4_095]));
+                calls.push(at(&call, 4, 4));
+            }
+        }
+    }
+    // Any eight neighbours: the largest counts.
+    for _ in 0..60 {
+        let threshold = random.pick(&[40, 41, 200]);
+        let mut call = dark_frame(entry, 7, 7, threshold as u64);
+        for (row, column) in [(2, 2), (2, 3), (2, 4), (3, 2), (3, 4), (4, 2), (4, 3), (4, 4)] {
+            set_pixel(&mut call, row, column, random.below(threshold / 2 + random.below(2)) as u16);
+        }
+        set_pixel(&mut call, 3, 3, 300);
+        set_pixel(&mut call, random.pick(&[1, 5]), random.below(7), 150);
+        calls.push(at(&call, 3, 3));
+    }
+    calls
+}
+
+/// A peak whose border is as bright as it may be, or nearly: as large as the peak after it, one less before it.
+fn bright_border(random: &Random, entry: Entry) -> Call {
+    let peak = random.pick(&[1, 2, 50, 4_095]);
+    let dim = random.pick(&[0, 2, 10]);
+    let samples: Vec<u16> = (0..49)
+        .map(|k| match k {
+            24 => peak,
+            _ if random.chance(dim) => random.below(usize::from(peak)) as u16,
+            _ if k < 24 => peak - 1,
+            _ => peak,
+        })
+        .collect();
+    at(&frame_of(entry, 7, 7, u64::from(peak), Buffer::of(&samples)), 3, 3)
 }
 
 fn lists(random: &Random, calls: &mut Vec<Call>) {
@@ -345,6 +403,7 @@ fn lists(random: &Random, calls: &mut Vec<Call>) {
         let mut call = dark_frame(Entry::List, 24, 24, 50);
         for k in 0..stars {
             set_pixel(&mut call, 3 + 5 * (k / 4), 3 + 5 * (k % 4), 200);
+            set_pixel(&mut call, 3 + 5 * (k / 4), 4 + 5 * (k % 4), 60);
         }
         calls.push(call);
     }
@@ -354,6 +413,7 @@ fn lists(random: &Random, calls: &mut Vec<Call>) {
         for k in 0..64 {
             let step = if rising { k } else { 63 - k };
             set_pixel(&mut call, 4 + 7 * (k / 8), 4 + 7 * (k % 8), 100 + 10 * (step as u16));
+            set_pixel(&mut call, 5 + 7 * (k / 8), 4 + 7 * (k % 8), 30);
         }
         calls.push(call);
     }
@@ -365,6 +425,24 @@ fn lists(random: &Random, calls: &mut Vec<Call>) {
     calls.push(dark_frame(Entry::List, 7, 6, 50));
     frame_limits(calls, &leaning_star(random, Entry::List));
     frame_reasons(random, calls, Entry::List);
+    // Stars among hot pixels, more of either than the list keeps.
+    for hot in [1, 3, 8, 12, 40] {
+        for _ in 0..6 {
+            let mut call = star_field(random, Entry::List, 12, 3);
+            add_hot_pixels(random, &mut call, hot);
+            calls.push(call);
+        }
+    }
+    // A grid of equal pixels, each listed only with half the threshold beside it.
+    for beside in [24, 25] {
+        let mut call = dark_frame(Entry::List, 24, 24, 50);
+        for k in 0..16 {
+            set_pixel(&mut call, 3 + 5 * (k / 4), 3 + 5 * (k % 4), 200);
+            set_pixel(&mut call, 4 + 5 * (k / 4), 2 + 5 * (k % 4), beside + (k % 2) as u16);
+        }
+        calls.push(call);
+    }
+    calls.extend((0..10).map(|_| bright_border(random, Entry::List)));
 }
 
 // Directions.
@@ -983,7 +1061,9 @@ fn attitudes(random: &Random, calls: &mut Vec<Call>) {
 fn document_chain() -> Call {
     let mut call = dark_frame(Entry::Chain, 160, 120, 50);
     for (row, column) in [(60, 32), (60, 128), (108, 80)] {
+        set_pixel(&mut call, row, column - 1, 50);
         set_pixel(&mut call, row, column, 100);
+        set_pixel(&mut call, row, column + 1, 50);
     }
     (call.cx, call.cy, call.focal) = (20_480, 15_360, 16_384);
     let stars =
@@ -1098,6 +1178,14 @@ fn chains(random: &Random, calls: &mut Vec<Call>) {
     damaged(random, Entry::Chain, 14, 120, sound, calls);
     let crowded = || crowded_scene(random);
     damaged(random, Entry::Chain, 2, 20, crowded, calls);
+    // Hot pixels take no star's place.
+    for hot in [1, 4, 20] {
+        for visible in 3..=8 {
+            let mut call = scene(random, 80, 60, visible, 12);
+            add_hot_pixels(random, &mut call, hot);
+            calls.push(call);
+        }
+    }
     // The sky in a mirror, and the document's with two stars exchanged.
     for visible in 3..=8 {
         for records in [visible, 20] {
@@ -1180,6 +1268,8 @@ fn reasons(random: &Random, calls: &mut Vec<Call>) {
     vary(calls, &sound, &HUGE, |call, row| call.row = row);
     vary(calls, &sound, &HUGE, |call, column| call.column = column);
     frame_reasons(random, calls, Entry::Reason);
+    calls.extend(lone_and_not(random, Entry::Reason));
+    calls.extend((0..10).map(|_| bright_border(random, Entry::Reason)));
 }
 
 // Indexes.

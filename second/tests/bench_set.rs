@@ -29,8 +29,8 @@ fn measured(x: i64, y: i64, brightness: i64) -> Kind {
 }
 
 #[test]
-fn a_one_star() {
-    assert_eq!(verdict(&frame_7(&[(3, 3, 100)]), 50, 3, 3), measured(768, 768, 2_400));
+fn a_one_pixel_is_lone() {
+    assert_eq!(verdict(&frame_7(&[(3, 3, 100)]), 50, 3, 3), Kind::Lone);
 }
 
 #[test]
@@ -47,9 +47,16 @@ fn c_fraction_toward_zero() {
 }
 
 #[test]
-fn d_sky_level_from_the_border() {
+fn d_one_pixel_and_a_lit_border_is_lone() {
     let samples = frame_7(&[(3, 3, 100), (0, 0, 24)]);
-    assert_eq!(verdict(&samples, 50, 3, 3), measured(768, 768, 2_376));
+    assert_eq!(verdict(&samples, 50, 3, 3), Kind::Lone);
+}
+
+#[test]
+fn sky_level_from_the_border() {
+    // Half the threshold beside the peak: weights 24 x 100 - 24 and 24 x 25 - 24; 256 x 576 / 2,952 is 49.9...
+    let samples = frame_7(&[(3, 3, 100), (2, 2, 25), (0, 0, 24)]);
+    assert_eq!(verdict(&samples, 50, 3, 3), measured(719, 719, 2_952));
 }
 
 #[test]

@@ -58,15 +58,37 @@ fn edge_names_the_first_side() {
     };
     assert_eq!(smallest(4, 3), "edge bottom\n");
     assert_eq!(smallest(2, 4), "edge right\n");
-    assert_eq!(smallest(3, 3), "measured 768 768 1440\n");
+    assert_eq!(smallest(3, 3), "lone 0\n");
+}
+
+#[test]
+fn lone_gives_the_largest_neighbour() {
+    assert_eq!(line(&[(5, 5, 100)], 5, 5), "lone 0\n");
+    assert_eq!(line(&[(5, 5, 100), (5, 4, 12), (6, 6, 7)], 5, 5), "lone 12\n");
+    assert_eq!(line(&[(5, 5, 100), (4, 6, 24), (4, 4, 23), (5, 7, 99), (3, 5, 99)], 5, 5), "lone 24\n");
+    // Each of the eight saves it: 24 x 100 and 24 x 25, a fifth of a pixel to its side.
+    assert_eq!(line(&[(5, 5, 100), (4, 4, 25)], 5, 5), "measured 1229 1229 3000\n");
+    assert_eq!(line(&[(5, 5, 100), (5, 6, 25)], 5, 5), "measured 1331 1280 3000\n");
+    assert_eq!(line(&[(5, 5, 100), (6, 5, 25)], 5, 5), "measured 1280 1331 3000\n");
+    // Half of 51 is 25; half of 1 is 0, which every sample reaches.
+    let asked = |threshold: u16, beside: u16| {
+        why(&settings(20, 12, threshold), &frame(20, 12, &[(5, 5, 100), (5, 6, beside)]), 5, 5)
+    };
+    assert_eq!(asked(51, 24), "lone 24\n");
+    assert_eq!(asked(51, 25), "measured 1331 1280 3000\n");
+    assert_eq!(asked(52, 25), "lone 25\n");
+    assert_eq!(asked(2, 0), "lone 0\n");
+    assert_eq!(asked(1, 0), "measured 1280 1280 2400\n");
+    // Edge comes first.
+    assert_eq!(line(&[(5, 2, 100)], 5, 2), "edge left\n");
 }
 
 #[test]
 fn measured_gives_position_and_brightness() {
     // Weights 24 x 100 and 24 x 50: the middle lies a third of a pixel to the left.
     assert_eq!(line(&[(5, 5, 100), (5, 4, 50)], 5, 5), "measured 1195 1280 3600\n");
-    assert_eq!(line(&[(3, 16, 100)], 3, 16), "measured 4096 768 2400\n");
-    assert_eq!(line(&[(8, 3, 100)], 8, 3), "measured 768 2048 2400\n");
+    assert_eq!(line(&[(3, 16, 100), (3, 15, 50), (3, 17, 50)], 3, 16), "measured 4096 768 4800\n");
+    assert_eq!(line(&[(8, 3, 100), (7, 3, 50), (9, 3, 50)], 8, 3), "measured 768 2048 4800\n");
 }
 
 #[test]

@@ -88,7 +88,7 @@ fn list_is_made_of_the_verdicts() {
         let (samples, set) = (call.samples.values(), call.settings());
         let list = frame::list(&samples, set.width, set.height, set.threshold).unwrap();
         let mut measured = Vec::new();
-        let mut edge = 0;
+        let (mut edge, mut lone) = (0, 0);
         for row in 0..set.height {
             for column in 0..set.width {
                 match frame::verdict(&samples, set.width, set.height, set.threshold, row, column)
@@ -97,11 +97,12 @@ fn list_is_made_of_the_verdicts() {
                 {
                     Kind::Measured(star) => measured.push(star),
                     Kind::Edge => edge += 1,
+                    Kind::Lone => lone += 1,
                     Kind::Dark | Kind::Beaten => {}
                 }
             }
         }
-        assert_eq!((list.measured, list.edge), (measured.len(), edge));
+        assert_eq!((list.measured, list.edge, list.lone), (measured.len(), edge, lone));
         assert_eq!(list.stars.len(), measured.len().min(8));
         // A star's place: those brighter, and those equal that come before it in row order.
         for (k, star) in measured.iter().enumerate() {
@@ -131,11 +132,20 @@ fn beating(samples: &[u16], width: usize, height: usize, row: usize, column: usi
         .collect()
 }
 
+/// The samples of the eight neighbours of a pixel away from the sides, the largest last.
+fn neighbours(samples: &[u16], width: usize, place: usize) -> [u16; 8] {
+    let (above, below) = (place - width, place + width);
+    let places = [above - 1, above, above + 1, place - 1, place + 1, below - 1, below, below + 1];
+    let mut eight = places.map(|place| samples[place]);
+    eight.sort_unstable();
+    eight
+}
+
 #[test]
 fn reasons_are_true() {
     let random = Random::new(7);
-    let mut given = [0; 4];
-    for _ in 0..300 {
+    let mut given = [0; 5];
+    for _ in 0..1_500 {
         let call = small_frame(&random, Entry::Reason);
         let (samples, set) = (call.samples.values(), call.settings());
         let (width, height) = (set.width as usize, set.height as usize);
@@ -161,8 +171,15 @@ fn reasons_are_true() {
                     assert!(between[side] < 3 && between[..side].iter().all(|&pixels| pixels >= 3));
                     assert!(beating(&samples, width, height, row, column).is_empty());
                 }
+                Reason::Lone { largest } => {
+                    assert!(between.iter().all(|&pixels| pixels >= 3));
+                    assert_eq!(largest, i64::from(neighbours(&samples, width, place)[7]));
+                    assert!(i128::from(largest) < set.threshold / 2);
+                    assert!(beating(&samples, width, height, row, column).is_empty());
+                }
                 Reason::Measured(star) => {
                     assert_eq!(kind, Kind::Measured(star));
+                    assert!(i128::from(neighbours(&samples, width, place)[7]) >= set.threshold / 2);
                     assert!(between.iter().all(|&pixels| pixels >= 3));
                     assert!(beating(&samples, width, height, row, column).is_empty());
                 }

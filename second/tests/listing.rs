@@ -24,13 +24,20 @@ impl Files {
             frame: vec![0; 2 * 160 * 120],
         };
         for (row, column) in [(60, 32), (60, 128), (108, 80)] {
-            files.set_sample(160 * row + column, 100);
+            files.set_star(160 * row + column, 100);
         }
         files
     }
 
     fn set_sample(&mut self, index: usize, sample: u16) {
         self.frame[2 * index..2 * index + 2].copy_from_slice(&sample.to_be_bytes());
+    }
+
+    /// A pixel with half its light to the left and to the right.
+    fn set_star(&mut self, index: usize, sample: u16) {
+        self.set_sample(index - 1, sample / 2);
+        self.set_sample(index, sample);
+        self.set_sample(index + 1, sample / 2);
     }
 
     fn listing(&self) -> String {
@@ -56,10 +63,10 @@ fn settings(
 
 #[test]
 fn whole_listing() {
-    let expected = "measured 3 edge 0\n\
-                    0 8192 15360 2400 11\n\
-                    1 32768 15360 2400 22\n\
-                    2 20480 27648 2400 33\n\
+    let expected = "measured 3 edge 0 lone 0\n\
+                    0 8192 15360 4800 11\n\
+                    1 32768 15360 4800 22\n\
+                    2 20480 27648 4800 33\n\
                     1000000000 0 0\n\
                     0 1000000000 0\n\
                     0 0 1000000000\n";
@@ -70,10 +77,10 @@ fn whole_listing() {
 fn exchanged_stars_are_named_by_their_directions() {
     let mut files = Files::of_document();
     files.catalogue = [record(11, RIGHT), record(22, LEFT), record(33, BELOW)].concat();
-    let expected = "measured 3 edge 0\n\
-                    0 8192 15360 2400 22\n\
-                    1 32768 15360 2400 11\n\
-                    2 20480 27648 2400 33\n\
+    let expected = "measured 3 edge 0 lone 0\n\
+                    0 8192 15360 4800 22\n\
+                    1 32768 15360 4800 11\n\
+                    2 20480 27648 4800 33\n\
                     1000000000 0 0\n\
                     0 1000000000 0\n\
                     0 0 1000000000\n";
@@ -93,7 +100,7 @@ fn mirrored_sky_does_not_fit() {
     files.frame.fill(0);
     for [x, y, z] in mirrored.map(upright).map(|star| star.map(i64::from)) {
         let (column, row) = (80 - (64 * x + z / 2) / z, 60 + (64 * y + z / 2) / z);
-        files.set_sample((160 * row + column) as usize, 100);
+        files.set_star((160 * row + column) as usize, 100);
     }
     let stars = mirrored.map(upright);
     files.catalogue = [record(1, stars[0]), record(2, stars[1]), record(3, stars[2])].concat();
@@ -107,34 +114,49 @@ fn mirrored_sky_does_not_fit() {
 #[test]
 fn unassigned_star_shows_a_dash() {
     let mut files = Files::of_document();
-    files.set_sample(160 * 20 + 20, 90);
+    files.set_star(160 * 20 + 20, 90);
     let shown = files.listing();
-    assert!(shown.starts_with("measured 4 edge 0\n"));
-    assert!(shown.contains("\n3 5120 5120 2160 -\n1000000000 0 0\n"));
+    assert!(shown.starts_with("measured 4 edge 0 lone 0\n"));
+    assert!(shown.contains("\n3 5120 5120 4320 -\n1000000000 0 0\n"));
+}
+
+#[test]
+fn hot_pixels_are_counted_and_not_listed() {
+    let whole = Files::of_document().listing();
+    let mut files = Files::of_document();
+    // Brighter than every star, away from them, one of them at the edge.
+    for index in [160 * 20 + 20, 160 * 20 + 40, 160 * 90 + 140, 160 * 2 + 80] {
+        files.set_sample(index, 4_095);
+    }
+    assert_eq!(files.listing(), whole.replace("edge 0 lone 0", "edge 1 lone 3"));
+    // Without the light beside it a star is a hot pixel too.
+    files.set_sample(160 * 60 + 31, 24);
+    files.set_sample(160 * 60 + 33, 24);
+    assert!(files.listing().starts_with("measured 2 edge 1 lone 4\n"));
 }
 
 #[test]
 fn refusal_12_prints_the_first_lines() {
     let mut files = Files::of_document();
     files.settings[7] = 4;
-    let expected = "measured 3 edge 0\n\
-                    0 8192 15360 2400 -\n\
-                    1 32768 15360 2400 -\n\
-                    2 20480 27648 2400 -\n\
+    let expected = "measured 3 edge 0 lone 0\n\
+                    0 8192 15360 4800 -\n\
+                    1 32768 15360 4800 -\n\
+                    2 20480 27648 4800 -\n\
                     refused 12 0\n";
     assert_eq!(files.listing(), expected);
     files.frame.fill(0);
-    assert_eq!(files.listing(), "measured 0 edge 0\nrefused 12 0\n");
+    assert_eq!(files.listing(), "measured 0 edge 0 lone 0\nrefused 12 0\n");
 }
 
 #[test]
 fn refusal_13_prints_the_first_lines() {
     let mut files = Files::of_document();
     files.catalogue = [record(11, LEFT), record(22, RIGHT)].concat();
-    let expected = "measured 3 edge 0\n\
-                    0 8192 15360 2400 -\n\
-                    1 32768 15360 2400 -\n\
-                    2 20480 27648 2400 -\n\
+    let expected = "measured 3 edge 0 lone 0\n\
+                    0 8192 15360 4800 -\n\
+                    1 32768 15360 4800 -\n\
+                    2 20480 27648 4800 -\n\
                     refused 13 0\n";
     assert_eq!(files.listing(), expected);
 }
@@ -145,10 +167,10 @@ fn refusal_14_shows_the_stars_found() {
     // A narrow view, a wide tolerance, and stars that all stand in one place.
     files.settings = settings(160, 120, 50, 3, [20_480, 15_360, 4_194_304], 10_000_000_000_000_000);
     files.catalogue = [record(11, LEFT), record(22, LEFT), record(33, LEFT)].concat();
-    let expected = "measured 3 edge 0\n\
-                    0 8192 15360 2400 11\n\
-                    1 32768 15360 2400 22\n\
-                    2 20480 27648 2400 33\n\
+    let expected = "measured 3 edge 0 lone 0\n\
+                    0 8192 15360 4800 11\n\
+                    1 32768 15360 4800 22\n\
+                    2 20480 27648 4800 33\n\
                     refused 14 0\n";
     assert_eq!(files.listing(), expected);
 }
@@ -200,5 +222,5 @@ fn the_largest_frame_is_taken() {
         catalogue: record(0, LEFT).to_vec(),
         frame: vec![0; 2 * 32_000],
     };
-    assert_eq!(files.listing(), "measured 0 edge 0\nrefused 12 0\n");
+    assert_eq!(files.listing(), "measured 0 edge 0 lone 0\nrefused 12 0\n");
 }

@@ -149,8 +149,8 @@ fn recorded_cases_are_sound() {
 #[test]
 fn the_first_lines_are_the_bench_set() {
     let text = output(&cases()[..49]);
-    // Frame A, its pixels in row order: only the middle one is lit.
-    assert_eq!(text.lines().nth(24), Some("1 0 0 3 3 3 768 768 2400"));
+    // Frame A, its pixels in row order: only the middle one is lit, and it is lone.
+    assert_eq!(text.lines().nth(24), Some("1 0 0 3 3 3 0 0 0"));
     assert_eq!(text.lines().nth(23), Some("1 0 0 3 2 0 0 0 0"));
 }
 

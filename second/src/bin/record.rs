@@ -77,15 +77,17 @@ fn check(folder: &Path) -> ExitCode {
 /// The highest refusal number of any call.
 const MOST_REFUSAL: i64 = 17;
 
-/// How many cases there are of each kind, accepted and refused with each number.
+/// How many bytes and cases there are of each kind, accepted and refused with each number.
 fn print_table(cases: &[Case]) {
-    print!("{:<16} {:>6} {:>6}", "", "cases", "ok");
+    print!("{:<16} {:>8} {:>6} {:>6}", "", "bytes", "cases", "ok");
     (1..=MOST_REFUSAL).for_each(|number| print!(" {number:>4}"));
     println!();
     for entry in ENTRIES {
         let of_entry: Vec<&Case> = cases.iter().filter(|case| case.call.entry == entry).collect();
         let given = |number: i64| of_entry.iter().filter(|case| case.outcome.out[0] == number).count();
-        print!("{:<16} {:>6} {:>6}", entry.name(), of_entry.len(), given(0));
+        let mut bytes = Vec::new();
+        of_entry.iter().for_each(|case| case.call.write(&mut bytes));
+        print!("{:<16} {:>8} {:>6} {:>6}", entry.name(), bytes.len(), of_entry.len(), given(0));
         (1..=MOST_REFUSAL).for_each(|number| print!(" {:>4}", given(number)));
         println!();
     }
