@@ -123,7 +123,7 @@ fn longest() -> Vec<Files> {
     let mut cases = Vec::new();
     for (call, lines) in [(accepted, 9), (close, 7)] {
         let whole = files_of(&call).expect("its numbers fit their fields");
-        assert!(expected(&whole).starts_with("measured 5 edge 2\n"));
+        assert!(expected(&whole).starts_with("measured 5 edge 2 lone 0\n"));
         // Every star has a name, and then the matrix or the refusal stands.
         assert!(expected(&whole).lines().count() == lines && !expected(&whole).contains(" -\n"));
         for (k, more) in [(0, 1), (1, 1), (1, 16), (2, 1), (2, 2)] {
