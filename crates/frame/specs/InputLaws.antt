@@ -3,7 +3,7 @@ use mathlib.Core.Bool.{Bool, true, false, not, _&&_, _||_}
 use mathlib.Core.Path.{_≡_, refl, ap, _∙_}
 use mathlib.Core.List.{List, [], _∷_, _++_}
 use Prim.Native.Nat.{ℕ, _*_, _≤_, _<_}
-use native.Mathlib.Nat.{mul-comm, lt-irrefl}
+use native.Mathlib.Nat.{mul-comm, mul-le-mul, lt-irrefl}
 use native.Mathlib.Omega.{arith}
 use lib.ListN.{length, getD}
 use lib.Dec.{ltb, leb}
@@ -31,6 +31,18 @@ pub within-says : (least most x : ℕ) → within least most x ≡ true → (lea
 within-says least most x e =
     let t = both (leb least x) (leb x most) e in
     (leb-true least x (t .0), leb-true x most (t .1))
+
+-- both sides are in range
+pub size-says : (width height : ℕ) → sizeOut width height ≡ false → ((7 ≤ width) × (width ≤ 1024)) × ((7 ≤ height) × (height ≤ 1024))
+size-says width height e =
+    let a = neither (not (within 7 1024 width)) (not (within 7 1024 height)) e in
+    (within-says 7 1024 width (not-false _ (a .0)), within-says 7 1024 height (not-false _ (a .1)))
+
+-- and so a frame has at most 2^20 samples
+pub size-most : (width height : ℕ) → sizeOut width height ≡ false → width * height ≤ 1048576
+size-most width height e =
+    let s = size-says width height e in
+    mul-le-mul {n₁ = width} {m₁ = height} {n₂ = 1024} {m₂ = 1024} (s .0 .1) (s .1 .1)
 
 -- ---- the first sample that is too large
 
@@ -72,10 +84,10 @@ pub record Valid (samples : List ℕ) (width height threshold : ℕ) : Type 0 wh
 module _ (samples : List ℕ) (width height threshold : ℕ) where
   valid : sizeOut width height ≡ false → lengthOut samples width height ≡ false → thresholdOut threshold ≡ false → sampleOut samples ≡ false → Valid samples width height threshold
   valid p q r s =
-      let a = neither (not (within 7 1024 width)) (not (within 7 1024 height)) p in
+      let a = size-says width height p in
       record {
-        wide = within-says 7 1024 width (not-false _ (a .0));
-        high = within-says 7 1024 height (not-false _ (a .1));
+        wide = a .0;
+        high = a .1;
         whole = eqb-true (length samples) (width * height) (not-false _ q) ∙ mul-comm width height;
         reached = within-says 1 4095 threshold (not-false _ r);
         small = none-over samples (ltb-false (firstOver samples) (length samples) s);

@@ -1,9 +1,10 @@
 // What a call on a frame asks of its inputs: refusals 1 to 4, and 15 for one pixel. The order of the tests is the order of the numbers.
+ghost use mathlib.Core.Bool.{not};
 ghost use mathlib.Core.Path.{_≡_};
 ghost use Prim.Native.Nat.{ℕ, _≤_, _<_};
 ghost use lib.ListN.{length, getD};
 ghost use Rattle.refusal.specs.Table.{lowest};
-ghost use Rattle.frame.specs.Input.{within, firstOver, frameRows, pixelRows};
+ghost use Rattle.frame.specs.Input.{within, sizeOut, firstOver, frameRows, pixelRows};
 use refusal::Outcome;
 
 // The largest sample.
@@ -64,6 +65,16 @@ fn first_over(samples: &[u16]) -> usize
     look_for_over(samples)
 }
 
+// Whether both sides of a frame are in range.
+pub fn size_ok(width: usize, height: usize) -> bool
+    ensures { λ r. ⌜ not r ≡ sizeOut width height ⌝ }
+{
+    if !is_within(width, 7, 1024) {
+        return false;
+    }
+    is_within(height, 7, 1024)
+}
+
 // Width and height are tested before their product is formed, so it cannot overflow.
 pub(crate) fn frame_outcome(
     samples: &[u16],
@@ -73,10 +84,7 @@ pub(crate) fn frame_outcome(
 ) -> Outcome
     ensures { λ r. ⌜ r ≡ lowest (frameRows (now (samples .entry)) width height threshold) ⌝ }
 {
-    if !is_within(width, 7, 1024) {
-        return refusal::plain(refusal::SIZE);
-    }
-    if !is_within(height, 7, 1024) {
+    if !size_ok(width, height) {
         return refusal::plain(refusal::SIZE);
     }
     if samples.len() != width * height {

@@ -10,6 +10,7 @@ mod check; // check.rt: what a call asks of its inputs
 mod stars; // stars.rt: the list and the counts, pixel by pixel
 
 pub use check::pixel_outcome;
+pub use check::size_ok;
 
 pub enum Judgement {
     Refused(Refusal),

@@ -53,8 +53,12 @@ indexRoom = 16
 abbrev pub index : ℕ
 index = 17
 
+abbrev pub recordsRoom : ℕ
+recordsRoom = 18
+
 -- all of them, in their order
 abbrev pub inOrder : List ℕ
 inOrder =
     size ∷ samples ∷ threshold ∷ sample ∷ settings ∷ catalogue ∷ recordRule ∷ directions ∷
-    demand ∷ room ∷ ranking ∷ few ∷ noFit ∷ close ∷ pixel ∷ indexRoom ∷ index ∷ []
+    demand ∷ room ∷ ranking ∷ few ∷ noFit ∷ close ∷ pixel ∷ indexRoom ∷ index ∷
+    recordsRoom ∷ []

@@ -39,9 +39,11 @@ pub const PIXEL: u32 = 15;
 pub const INDEX_ROOM: u32 = 16;
 // The index is not the one for this catalogue and floor.
 pub const INDEX: u32 = 17;
+// The room lent for a burst's records is shorter than the records.
+pub const RECORDS_ROOM: u32 = 18;
 
 // All of them in the table's order, each the number that specs/Numbers has under its name.
-pub fn numbers_in_order() -> [u32; 17]
+pub fn numbers_in_order() -> [u32; 18]
     ensures { λ r. ⌜ r ≡ inOrder ⌝ }
 {
     [
@@ -62,6 +64,7 @@ pub fn numbers_in_order() -> [u32; 17]
         PIXEL,
         INDEX_ROOM,
         INDEX,
+        RECORDS_ROOM,
     ]
 }
 

@@ -6,7 +6,7 @@ use Prim.Native.Nat.{ℕ, zero, suc, _+_, _*_, _/_, _%_, _^_, _≤_, _<_}
 use native.Mathlib.Nat.{zero-add, add-zero, add-suc, pow-succ', mul-assoc, not-suc-le-zero}
 use native.Mathlib.Omega.{arith}
 use lib.ListN.{length, set, getD, take, drop, length-append, length-set, length-drop, List·getD-append}
-use lib.Seq.{sets, getD-at, getD-drop, getD-set-same, getD-set-other, take-suc}
+use lib.Seq.{sets, getD-at, getD-append-add, getD-drop, getD-set-same, getD-set-other, take-suc}
 use Rattle.words.specs.Number.{numberAt}
 use Rattle.words.specs.NumberLaws.{number-same}
 use Rattle.words.specs.Bytes.{bytesOf}
@@ -30,7 +30,7 @@ bytes-join m (suc n) q r h =
     rw (add-suc, a, b, bytes-join m n q (r / 256) l) (append-assoc (bytesOf m q) (bytesOf n (r / 256)) (r % 256 ∷ []))
 
 -- what is written in two parts, one behind the other
-sets-append : (l xs ys : List ℕ) (at : ℕ) → sets l at (xs ++ ys) ≡ sets (sets l at xs) (at + length xs) ys
+pub sets-append : (l xs ys : List ℕ) (at : ℕ) → sets l at (xs ++ ys) ≡ sets (sets l at xs) (at + length xs) ys
 sets-append l [] ys at = rw add-zero
 sets-append l (x ∷ xs) ys at =
     let e : suc at + length xs ≡ at + suc (length xs) = omega arith in
@@ -51,6 +51,19 @@ number-of (suc n) v h =
     number-same _ _ 0 0 n (λ k l. List·getD-append (bytesOf n (v / 256)) (v % 256 ∷ []) 0 (0 + k) (rw bytes-length (omega arith))) in
     let last : getD (bytesOf n (v / 256) ++ (v % 256 ∷ [])) (0 + n) 0 ≡ v % 256 = getD-at (bytesOf n (v / 256)) (v % 256) [] 0 (0 + n) (bytes-length n (v / 256) ∙ omega arith) in
     omega (arith, number-of n (v / 256) (omega (arith, pow-succ' 256 n)))
+
+-- the same of a number that stands first
+pub number-front : (n v : ℕ) (rest : List ℕ) → v < 256 ^ n → numberAt (bytesOf n v ++ rest) 0 n ≡ v
+number-front n v rest h =
+    number-same (bytesOf n v ++ rest) (bytesOf n v) 0 0 n (λ k l. List·getD-append (bytesOf n v) rest 0 (0 + k) (rw bytes-length (omega arith))) ∙ number-of n v h
+
+-- and of one behind other bytes
+pub number-behind : (xs bytes : List ℕ) (at n : ℕ) → numberAt (xs ++ bytes) (length xs + at) n ≡ numberAt bytes at n
+number-behind xs bytes at n =
+    number-same (xs ++ bytes) bytes (length xs + at) at n
+    (λ k l.
+    let e : length xs + at + k ≡ length xs + (at + k) = omega arith in
+    ap (λ (m : ℕ). getD (xs ++ bytes) m 0) e ∙ getD-append-add xs bytes (at + k) 0)
 
 -- what stands before or behind the stores stays
 sets-other : (l vs : List ℕ) (at j : ℕ) → (j < at) ⊎ (at + length vs ≤ j) → getD (sets l at vs) j 0 ≡ getD l j 0
