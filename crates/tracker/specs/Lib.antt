@@ -10,3 +10,5 @@ pub mod ChainLaws
 pub mod SettledLaws
 pub mod ReadyLaws
 pub mod NeverLaws
+pub mod RoomLaws
+pub mod BoundLaws

@@ -45,12 +45,12 @@ module _ (report : Report) (bytes : List ℕ) (s : Settings) (room : List ℕ) (
   abbrev sights : List ℤ
   sights = sightsOf report bytes s
 
-  search-known : (ourIdentification report bytes s .outcome ≡ Accepted) ⊎ (ourIdentification report bytes s .outcome ≡ Refused sought.noFit)
+  pub search-known : (ourIdentification report bytes s .outcome ≡ Accepted) ⊎ (ourIdentification report bytes s .outcome ≡ Refused sought.noFit)
   unfolding ourIdentification identificationOf
   search-known = rw (none-refuses sights bytes (s .needed) (s .tolerance) (ourRanking report bytes s) (our-call report bytes s room h) (enough-sights report bytes s room h)) (found-known (run.firstFit (problem (sought.setupFor sights bytes (s .needed) (s .tolerance)) (ourRanking report bytes s) sights (starsOf bytes))))
 
   -- every vector of a direction or a star is in range
-  in-range : (i j a b : ℕ) → InRange (tripleAt sights i) (tripleAt sights j) (tripleAt (starsOf bytes) a) (tripleAt (starsOf bytes) b)
+  pub in-range : (i j a b : ℕ) → InRange (tripleAt sights i) (tripleAt sights j) (tripleAt (starsOf bytes) a) (tripleAt (starsOf bytes) b)
   in-range i j a b =
       let d = sights-listed report bytes s (h .few) (h .size) .within in
       let k = valid-within bytes (h .catalogue) in

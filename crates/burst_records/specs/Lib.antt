@@ -1,0 +1,3 @@
+-- A burst's record: the definitions that the contracts cite, and their laws.
+pub mod Record
+pub mod Laws
