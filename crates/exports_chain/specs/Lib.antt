@@ -1,2 +1,3 @@
 -- The numbers that the whole chain hands over. Assumes nothing.
 pub mod Chain
+pub mod Laws

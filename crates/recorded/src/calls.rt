@@ -335,3 +335,79 @@ pub fn chain_by_index(
         &mut room[0..w],
     );
 }
+
+fn print_burst(
+    samples: &[u16],
+    width: usize,
+    height: usize,
+    threshold: usize,
+    cx: i64,
+    cy: i64,
+    f: i64,
+    stars: &[u8],
+    needed: usize,
+    tolerance: u64,
+    room: &mut [u16],
+    records: &mut [u8],
+) {
+    let before = checksum(room);
+    let records_before = bytes_checksum(records);
+    let mut out = [0i64; 64];
+    exports_burst::mnemathor_burst(
+        samples,
+        width,
+        height,
+        threshold,
+        cx,
+        cy,
+        f,
+        stars,
+        needed,
+        tolerance,
+        room,
+        records,
+        &mut out,
+    );
+    print_call(13, &out, 3);
+    print_more(before);
+    print_more(checksum(room));
+    print_more(records_before);
+    print_more(bytes_checksum(records));
+    print_end();
+}
+
+pub fn burst(
+    fd: i32,
+    bytes: &mut [u8],
+    samples: &mut [u16],
+    stars: &mut [u8],
+    room: &mut [u16],
+    records: &mut [u8],
+) {
+    let width = word(fd) as usize;
+    let height = word(fd) as usize;
+    let threshold = word(fd) as usize;
+    let cx = signed(word(fd));
+    let cy = signed(word(fd));
+    let f = signed(word(fd));
+    let needed = word(fd) as usize;
+    let tolerance = word(fd);
+    let n = read_words(fd, bytes, samples);
+    let s = expand(fd, 1, stars);
+    let w = read_words(fd, bytes, room);
+    let r = expand(fd, 1, records);
+    print_burst(
+        &samples[0..n],
+        width,
+        height,
+        threshold,
+        cx,
+        cy,
+        f,
+        &stars[0..s],
+        needed,
+        tolerance,
+        &mut room[0..w],
+        &mut records[0..r],
+    );
+}

@@ -24,6 +24,7 @@ fn run(
         10 => calls::index(fd, stars, index),
         11 => calls::ranking_by_index(fd, bytes, stars, index, room),
         12 => calls::chain_by_index(fd, bytes, samples, stars, index, room),
+        13 => calls::burst(fd, bytes, samples, stars, room, index),
         8 => calls::chain(fd, bytes, samples, stars, room),
         _ => calls::reason(fd, bytes, samples),
     }

@@ -1,25 +1,15 @@
 -- `exports_index::mnemathor_chain_by_index` meets its contract: each call's promise in turn. Assumes nothing.
-use mathlib.Core.Path.{_≡_, ap, _∙_}
-use mir.Syntax.{w64}
-use mir.Val.{toZ, ofZ}
+use mathlib.Core.Path.{ap, _∙_}
 use Prim.Native.Nat.{ℕ}
 use Rattle.numbers.specs.Num.{param, back}
 use Rattle.catalogue.specs.Format.{recordsIn}
 use Rattle.index_tracker.specs.Chain.{trackedOf, roomAfter, call}
-use Rattle.exports_chain.specs.Chain.{settingsOf, chainNumbers}
+use Rattle.exports_chain.specs.Chain.{chainNumbers}
+use Rattle.exports_chain.specs.Laws.{settled}
 use Rattle.handover.specs.Handed.{handed}
 use borrow.Author.Needs.{needs}
 use Rattle.exports_index.proofs.mnemathor_chain_by_index.Statement.{statement}
 use Rattle.exports_index.proofs.mnemathor_chain_by_index.Tie as tie
-
--- the settings as they are put together are those of the arguments
-settled : (s : tie.Start)
-    → settingsOf (s .args .width) (s .args .height) (s .args .threshold) (toZ w64 (ofZ w64 (s .args .cx))) (toZ w64 (ofZ w64 (s .args .cy)))
-    (toZ w64 (ofZ w64 (s .args .f))) (s .args .needed) (s .args .tolerance)
-    ≡ settingsOf (s .args .width) (s .args .height) (s .args .threshold) (s .args .cx) (s .args .cy) (s .args .f) (s .args .needed) (s .args .tolerance)
-settled s = λ i.
-    settingsOf (s .args .width) (s .args .height) (s .args .threshold) (back (param (s .fits .cx)) i) (back (param (s .fits .cy)) i)
-    (back (param (s .fits .f)) i) (s .args .needed) (s .args .tolerance)
 
 track-requires : tie.Need-track-requires
 track-requires c κs = search needs
@@ -46,11 +36,12 @@ returns c =
     let t = n .before .before .before in
     let s = t .before .before .before .before .before .before in
     let a = s .args in
-    let b = a .catalogue .now in (
-      t .track .ensures .1 ∙ (λ i. roomAfter (call (a .samples .now) b (a .index .now) (back (param (s .fits .floor)) i) (settled s i) (a .room .now))),
+    let b = a .catalogue .now in
+    let g = settled (a .width) (a .height) (a .threshold) (a .needed) (a .tolerance) (s .fits .cx) (s .fits .cy) (s .fits .f) in (
+      t .track .ensures .1 ∙ (λ i. roomAfter (call (a .samples .now) b (a .index .now) (back (param (s .fits .floor)) i) (g i) (a .room .now))),
       handed (chainNumbers (recordsIn b)) _ (c .before .hand-over .ensures)
           (o .of-chain .ensures ∙ ap (λ (k : ℕ). chainNumbers k (t .track .result)) (n .records .ensures))
-          (t .track .ensures .0 ∙ (λ i. trackedOf (call (a .samples .now) b (a .index .now) (back (param (s .fits .floor)) i) (settled s i) (a .room .now)))),
+          (t .track .ensures .0 ∙ (λ i. trackedOf (call (a .samples .now) b (a .index .now) (back (param (s .fits .floor)) i) (g i) (a .room .now)))),
     )
 
 pub mnemathor-chain-by-index-spec : {M : Type 1} → statement M

@@ -1,0 +1,2 @@
+-- The numbers that a burst hands over. Assumes nothing.
+pub mod Burst
