@@ -1,6 +1,7 @@
 //! One call of an entry point with all it is lent, its form in the recorded cases, and its outcome.
 
 use crate::answer::{numbers, Numbers};
+use crate::burst::burst_within;
 use crate::chain::{chain_by_index_within, chain_within, Settings};
 use crate::index::Index;
 use crate::search::{search_within, Effort, GaveUp};
@@ -20,9 +21,10 @@ pub enum Entry {
     Index,
     RankingByIndex,
     ChainByIndex,
+    Burst,
 }
 
-pub const ENTRIES: [Entry; 12] = [
+pub const ENTRIES: [Entry; 13] = [
     Entry::Verdict,
     Entry::List,
     Entry::Direction,
@@ -35,6 +37,7 @@ pub const ENTRIES: [Entry; 12] = [
     Entry::Index,
     Entry::RankingByIndex,
     Entry::ChainByIndex,
+    Entry::Burst,
 ];
 
 impl Entry {
@@ -52,6 +55,7 @@ impl Entry {
             Entry::Index => "index",
             Entry::RankingByIndex => "ranking by index",
             Entry::ChainByIndex => "chain by index",
+            Entry::Burst => "burst",
         }
     }
 
@@ -66,12 +70,12 @@ impl Entry {
 
     /// How many of the 64 numbers the recorded output shows.
     pub fn numbers_shown(self) -> usize {
-        [8, 30, 5, 3, 2, 11, 11, 47, 6, 3, 2, 47][self.index()]
+        [8, 30, 5, 3, 2, 11, 11, 47, 6, 3, 2, 47, 3][self.index()]
     }
 
     /// Whether plain Rust has this call too.
     pub fn in_plain(self) -> bool {
-        self != Entry::Reason
+        !matches!(self, Entry::Reason | Entry::Burst)
     }
 
     /// The refusals this call can give, the one that goes before the others first.
@@ -88,6 +92,15 @@ impl Entry {
             Entry::Index => &[6, 7, 16],
             Entry::RankingByIndex => &[6, 7, 17, 8, 9, 10],
             Entry::ChainByIndex => &[1, 2, 3, 4, 5, 6, 7, 17, 9, 10, 12, 13, 14],
+            Entry::Burst => &[1, 2, 18],
+        }
+    }
+
+    /// What can be wrong with the call, those that concern one frame of a burst too.
+    pub fn faults(self) -> &'static [u8] {
+        match self {
+            Entry::Burst => &[1, 2, 18, 3, 4, 5, 6, 7, 9, 10, 12],
+            _ => self.refusals(),
         }
     }
 }
@@ -219,7 +232,7 @@ pub struct Call {
     pub vectors: Buffer<i64>,
     pub floor: i64,
     pub index: Buffer<u8>,
-    /// The room for an index to be built.
+    /// The room for an index to be built, or for a burst's records.
     pub bytes: Buffer<u8>,
 }
 
@@ -291,7 +304,7 @@ impl Call {
             Entry::Catalogue | Entry::Attitude => vec![],
             Entry::Ranking => vec![self.tolerance],
             Entry::Search => vec![self.needed, self.tolerance],
-            Entry::Chain => vec![
+            Entry::Chain | Entry::Burst => vec![
                 self.width,
                 self.height,
                 self.threshold,
@@ -358,6 +371,12 @@ impl Call {
                 self.catalogue.write(bytes);
                 self.index.write(bytes);
                 self.room.write(bytes);
+            }
+            Entry::Burst => {
+                self.samples.write(bytes);
+                self.catalogue.write(bytes);
+                self.room.write(bytes);
+                self.bytes.write(bytes);
             }
         }
     }
@@ -438,6 +457,14 @@ impl Call {
                 &mut lent.room,
                 effort,
             )?),
+            Entry::Burst => numbers(&burst_within(
+                &lent.samples,
+                &set,
+                &lent.catalogue,
+                &mut lent.room,
+                &mut lent.bytes,
+                effort,
+            )?),
         };
         Ok(Outcome { out, room: lent.room, bytes: lent.bytes })
     }
@@ -506,17 +533,20 @@ impl Call {
                 self.tolerance,
                 &mut lent.room,
             )),
-            Entry::Reason => panic!("plain Rust has no {}", self.entry.name()),
+            Entry::Reason | Entry::Burst => panic!("plain Rust has no {}", self.entry.name()),
         }
     }
 
     /// Whether the call is lent a ranking room to write in.
     pub fn writes_ranking(&self) -> bool {
-        matches!(self.entry, Entry::Ranking | Entry::Chain | Entry::RankingByIndex | Entry::ChainByIndex)
+        matches!(
+            self.entry,
+            Entry::Ranking | Entry::Chain | Entry::RankingByIndex | Entry::ChainByIndex | Entry::Burst
+        )
     }
 
     /// Whether the call is lent a room of bytes to write in.
     pub fn writes_bytes(&self) -> bool {
-        self.entry == Entry::Index
+        matches!(self.entry, Entry::Index | Entry::Burst)
     }
 }

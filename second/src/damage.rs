@@ -18,6 +18,11 @@ pub fn damage(call: &mut Call, reason: u8, random: &Random) {
                 _ => (call.width, call.height) = (side, random.pick(&[6, 1_025, random.pick(&HUGE)])),
             }
         }
+        2 if call.entry == Entry::Burst && random.chance(40) => {
+            // More frames than a burst may have.
+            let size = call.width.saturating_mul(call.height).min(15_900) as usize;
+            call.samples = call.samples.resized(size * random.pick(&[65, 66]));
+        }
         2 => damage_sample_count(call, random),
         3 => call.threshold = random.pick(&[0, 4_096, 65_535, random.pick(&HUGE)]),
         4 => {
@@ -62,6 +67,10 @@ pub fn damage(call: &mut Call, reason: u8, random: &Random) {
             call.bytes = call.bytes.resized(random.pick(&short).min(call.bytes.len));
         }
         17 => damage_index(call, random),
+        18 => {
+            let short = [call.bytes.len.saturating_sub(81), call.bytes.len / 2, 79, 0];
+            call.bytes = call.bytes.resized(random.pick(&short).min(call.bytes.len));
+        }
         _ => {}
     }
 }

@@ -1,5 +1,6 @@
 //! Makes calls: plausible ones of every kind, and damage that gives each refusal in each way.
 
+use crate::burst::RECORD_BYTES;
 use crate::call::{Buffer, Call, Entry};
 use crate::damage::damage;
 use crate::random::Random;
@@ -380,6 +381,43 @@ fn scene_tolerance(random: &Random, call: &Call, spots: &[(i64, i64)], stars: &[
     tolerance.min(MOST_TOLERANCE)
 }
 
+// The burst.
+
+/// A burst over the sky of a chain call: its frame, unchanged and changed in several ways, over and over.
+pub fn burst_of(random: &Random, first: &Call, frames: usize) -> Call {
+    let mut call = first.clone();
+    call.entry = Entry::Burst;
+    let size = first.samples.len;
+    call.samples = Buffer::repeat(size * frames, &first.samples.pattern);
+    for k in 0..frames {
+        for (index, sample) in burst_frame(random, first) {
+            call.samples.set(size * k + index, sample);
+        }
+    }
+    let spare = random.pick(&[0, 0, 1, 79, 80]);
+    call.bytes = Buffer::repeat(RECORD_BYTES * frames + spare, &[0x5A, 3, 255]);
+    call
+}
+
+/// The lit pixels of one frame of a burst.
+fn burst_frame(random: &Random, first: &Call) -> Vec<(usize, u16)> {
+    let size = first.samples.len;
+    let mut patches = first.samples.patches.clone();
+    match random.below(8) {
+        // Nothing but the ground: too few directions.
+        0 => patches.clear(),
+        // A sample too large.
+        1 => patches.push((random.below(size), random.pick(&[4_096, 65_535]))),
+        // Fewer stars; or the frame turned half round, another attitude if the tolerance lets it pass; or a hot
+        // pixel.
+        2 => patches.truncate(patches.len() / 2),
+        3 => patches.iter_mut().for_each(|patch| patch.0 = size - 1 - patch.0),
+        4 => patches.push((random.below(size), 4_095)),
+        _ => {}
+    }
+    patches
+}
+
 // Attitude.
 
 pub fn attitude_of(vectors: [[i64; 3]; 4]) -> Call {
@@ -418,10 +456,15 @@ pub fn any_call(random: &Random, entry: Entry) -> Call {
         }
         Entry::RankingByIndex => by_index(random, any_ranking(random)),
         Entry::ChainByIndex => by_index(random, any_chain(random)),
+        Entry::Burst => {
+            let frames = if random.below(50) == 0 { 64 } else { random.below(6) };
+            let first = any_chain(random);
+            burst_of(random, &first, frames)
+        }
     };
     if random.chance(35) {
         for _ in 0..random.pick(&[1, 1, 1, 2, 3]) {
-            let reason = random.pick(entry.refusals());
+            let reason = random.pick(entry.faults());
             damage(&mut call, reason, random);
         }
     }

@@ -7,6 +7,7 @@
 pub mod answer;
 
 pub mod attitude;
+pub mod burst;
 pub mod catalogue;
 pub mod chain;
 pub mod desk;

@@ -2,6 +2,8 @@
 //! implementation where plain Rust has no such call. It lets `compare` and `bench` be tried without the archive.
 
 use crate::answer::{numbers, Answer, Refusal};
+use crate::burst::burst;
+use crate::chain::Settings;
 use crate::{frame, plain};
 use std::slice::{from_raw_parts, from_raw_parts_mut};
 
@@ -230,4 +232,42 @@ unsafe extern "C" fn mnemathor_chain_by_index(
             samples, width, height, threshold, cx, cy, f, catalogue, index, needed, tolerance, room,
         )
     });
+}
+
+#[no_mangle]
+unsafe extern "C" fn mnemathor_burst(
+    samples: *const u16,
+    samples_len: usize,
+    width: usize,
+    height: usize,
+    threshold: usize,
+    cx: i64,
+    cy: i64,
+    f: i64,
+    catalogue: *const u8,
+    catalogue_len: usize,
+    needed: usize,
+    tolerance: u64,
+    room: *mut u16,
+    room_len: usize,
+    records: *mut u8,
+    records_len: usize,
+    out: *mut i64,
+    out_len: usize,
+) {
+    let samples = from_raw_parts(samples, samples_len);
+    let catalogue = from_raw_parts(catalogue, catalogue_len);
+    let room = from_raw_parts_mut(room, room_len);
+    let records = from_raw_parts_mut(records, records_len);
+    let settings = Settings {
+        width: wide(width),
+        height: wide(height),
+        threshold: wide(threshold),
+        cx: cx.into(),
+        cy: cy.into(),
+        focal: f.into(),
+        needed: wide(needed),
+        tolerance: tolerance.into(),
+    };
+    answer(out, out_len, || burst(samples, &settings, catalogue, room, records));
 }

@@ -58,7 +58,7 @@ impl Reader<'_> {
         self.buffer(1, 16 * 520).into_iter().map(|n| n as u8).collect()
     }
 
-    /// An index, or a room of bytes.
+    /// An index, or a room for one or for a burst's records.
     fn bytes(&mut self) -> Vec<u8> {
         self.buffer(1, 12_288).into_iter().map(|n| n as u8).collect()
     }
@@ -105,12 +105,18 @@ impl Reader<'_> {
                 assert_eq!(self.bytes(), lent.index);
                 assert_eq!(self.words(), lent.room);
             }
+            Entry::Burst => {
+                assert_eq!(self.samples(), lent.samples);
+                assert_eq!(self.catalogue(), lent.catalogue);
+                assert_eq!(self.words(), lent.room);
+                assert_eq!(self.bytes(), lent.bytes);
+            }
         }
     }
 }
 
 fn scalar_count(entry: Entry) -> usize {
-    [5, 3, 5, 0, 1, 2, 0, 8, 5, 1, 2, 9][entry.index()]
+    [5, 3, 5, 0, 1, 2, 0, 8, 5, 1, 2, 9, 8][entry.index()]
 }
 
 #[test]
@@ -171,4 +177,18 @@ fn calls_by_an_index_give_what_plain_calls_give() {
         }
     }
     assert!(compared > 300, "{compared}");
+}
+
+#[test]
+fn bursts_have_every_refusal_of_a_frame() {
+    let mut given = [0; 16];
+    for case in cases().iter().filter(|case| case.call.entry == Entry::Burst) {
+        let records = case.outcome.out[2] as usize;
+        for record in case.outcome.bytes[..80 * records].chunks(80) {
+            given[usize::from(record[3])] += 1;
+        }
+    }
+    for number in [0, 3, 4, 5, 6, 7, 9, 10, 12, 13, 14] {
+        assert!(given[number] >= 10, "{given:?}");
+    }
 }
