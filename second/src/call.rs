@@ -75,7 +75,7 @@ impl Entry {
 
     /// Whether plain Rust has this call too.
     pub fn in_plain(self) -> bool {
-        !matches!(self, Entry::Reason | Entry::Burst)
+        self != Entry::Reason
     }
 
     /// The refusals this call can give, the one that goes before the others first.
@@ -533,7 +533,21 @@ impl Call {
                 self.tolerance,
                 &mut lent.room,
             )),
-            Entry::Reason | Entry::Burst => panic!("plain Rust has no {}", self.entry.name()),
+            Entry::Burst => numbers(&plain::burst(
+                &lent.samples,
+                width,
+                height,
+                threshold,
+                self.cx,
+                self.cy,
+                self.focal,
+                &lent.catalogue,
+                needed,
+                self.tolerance,
+                &mut lent.room,
+                &mut lent.bytes,
+            )),
+            Entry::Reason => panic!("plain Rust has no {}", self.entry.name()),
         }
     }
 

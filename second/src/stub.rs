@@ -2,8 +2,6 @@
 //! implementation where plain Rust has no such call. It lets `compare` and `bench` be tried without the archive.
 
 use crate::answer::{numbers, Answer, Refusal};
-use crate::burst::burst;
-use crate::chain::Settings;
 use crate::{frame, plain};
 use std::slice::{from_raw_parts, from_raw_parts_mut};
 
@@ -259,15 +257,9 @@ unsafe extern "C" fn mnemathor_burst(
     let catalogue = from_raw_parts(catalogue, catalogue_len);
     let room = from_raw_parts_mut(room, room_len);
     let records = from_raw_parts_mut(records, records_len);
-    let settings = Settings {
-        width: wide(width),
-        height: wide(height),
-        threshold: wide(threshold),
-        cx: cx.into(),
-        cy: cy.into(),
-        focal: f.into(),
-        needed: wide(needed),
-        tolerance: tolerance.into(),
-    };
-    answer(out, out_len, || burst(samples, &settings, catalogue, room, records));
+    answer(out, out_len, || {
+        plain::burst(
+            samples, width, height, threshold, cx, cy, f, catalogue, needed, tolerance, room, records,
+        )
+    });
 }

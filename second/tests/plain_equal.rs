@@ -18,7 +18,7 @@ fn calls(seed: u64, count: usize) -> impl Iterator<Item = Call> {
 #[test]
 fn plain_equals_wide() {
     let mut accepted = [0; ENTRIES.len()];
-    let mut refused = [[0; 18]; ENTRIES.len()];
+    let mut refused = [[0; 19]; ENTRIES.len()];
     for call in calls(6, 1_000) {
         let Ok(wide) = call.run_wide(&mut Effort::up_to(200_000)) else {
             continue;

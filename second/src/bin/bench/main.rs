@@ -3,6 +3,7 @@
 //! `bench` prints a row for each input, `bench PART` for those whose names have this part, and `bench scan`
 //! the worst and the median of many random searches.
 
+mod bursts;
 mod clock;
 mod frames;
 mod indexes;
@@ -30,7 +31,9 @@ fn main() -> ExitCode {
 /// A further kind of input is one more list of names and calls.
 fn rows(part: &str) -> bool {
     let random = Random::new(2_024);
-    let mut inputs = [frames::inputs(&random), rankings::inputs(&random), hard::searches(&random)].concat();
+    let single = [frames::inputs(&random), rankings::inputs(&random), hard::searches(&random)].concat();
+    let mut inputs: Vec<_> = single.into_iter().map(|(name, call)| (name, vec![call])).collect();
+    inputs.extend(bursts::inputs(&random));
     inputs.retain(|(name, _)| name.contains(part));
     table::print(&inputs)
 }

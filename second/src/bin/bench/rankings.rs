@@ -10,7 +10,7 @@ use second::search::Effort;
 use second::sky;
 
 pub fn inputs(random: &Random) -> Vec<(&'static str, Call)> {
-    let (ranking, chain) = (ranking(random), chain(random));
+    let (ranking, chain) = (ranking(random), solved_chain(random, 200, 160, 512));
     let by_index = indexes::inputs(&ranking, &field(random), &chain);
     let plain = vec![
         ("ranking, 8 directions, 512 stars", ranking),
@@ -46,16 +46,9 @@ fn field(random: &Random) -> Call {
 }
 
 /// The first scene of its kind that is solved.
-fn chain(random: &Random) -> Call {
-    let scene = Scene {
-        width: 200,
-        height: 160,
-        visible: 8,
-        unknown: 0,
-        records: 512,
-        equal_brightness: false,
-        background: true,
-    };
+pub fn solved_chain(random: &Random, width: usize, height: usize, records: usize) -> Call {
+    let scene =
+        Scene { width, height, visible: 8, unknown: 0, records, equal_brightness: false, background: true };
     loop {
         let call = scene.call(random);
         let solved = call.run_wide(&mut Effort::up_to(1_000_000)).is_ok_and(|outcome| outcome.out[0] == 0);

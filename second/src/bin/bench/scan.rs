@@ -4,6 +4,7 @@
 use crate::table::{best_times, same_outcome, turns};
 use second::hard::{unrelated, REACHES};
 use second::random::Random;
+use std::slice::from_ref;
 
 const NEEDED: [u64; 5] = [4, 5, 6, 7, 8];
 /// 10^14 to 10^16 in four steps.
@@ -52,7 +53,7 @@ fn measure(random: &Random, needed: u64, tolerance: u64) -> Option<Vec<Measured>
     let one = |k: usize| {
         let call = unrelated(random, needed, tolerance, REACHES[k % REACHES.len()]);
         let turns = turns(&call).filter(|_| same_outcome(&call))?;
-        let (proved, plain) = best_times(&call, ROUNDS);
+        let (proved, plain) = best_times(from_ref(&call), ROUNDS);
         Some(Measured { proved, plain, turns })
     };
     (0..PROBLEMS).map(one).collect()

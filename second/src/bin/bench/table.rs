@@ -1,8 +1,8 @@
-//! Times inputs and prints them as a table. Each round times the proved library and plain Rust one after the
-//! other; the best round of each counts. Both must give the same.
+//! Times inputs, each one call or several, and prints them as a table. Each round times the proved library and
+//! plain Rust one after the other; the best round of each counts. Both must give the same.
 
 use crate::clock::busy;
-use second::call::{Call, Entry};
+use second::call::{Call, Entry, Lent};
 use second::{linked, plain};
 use std::hint::black_box;
 use std::time::Duration;
@@ -14,17 +14,18 @@ const LEAST_TIME: Duration = Duration::from_millis(2);
 const MOST_TIME: Duration = Duration::from_secs(4);
 
 /// Prints a row for each input; false where the two sides differ anywhere.
-pub fn print(inputs: &[(&str, Call)]) -> bool {
+pub fn print(inputs: &[(&str, Vec<Call>)]) -> bool {
     println!("{:<56} {:>10} {:>10} {:>7} {:>8}", "input", "proved ms", "plain ms", "ratio", "turns");
     let mut equal = true;
-    for (name, call) in inputs {
-        if !same_outcome(call) {
+    for (name, calls) in inputs {
+        if !calls.iter().all(same_outcome) {
             println!("{name:<56} the two differ");
             equal = false;
             continue;
         }
-        let (proved, plain) = best_times(call, ROUNDS);
-        let turns = turns(call).map_or(String::new(), |turns| turns.to_string());
+        let (proved, plain) = best_times(calls, ROUNDS);
+        let turns =
+            calls.iter().map(turns).sum::<Option<u64>>().map_or(String::new(), |turns| turns.to_string());
         println!(
             "{name:<56} {:>10.3} {:>10.3} {:>7.2} {turns:>8}",
             1e3 * proved,
@@ -42,19 +43,23 @@ pub fn same_outcome(call: &Call) -> bool {
     call.run_plain_on(&mut plain) == out && plain == proved
 }
 
-/// The best seconds a call, proved and plain, of rounds that take turns.
-pub fn best_times(call: &Call, rounds: usize) -> (f64, f64) {
+/// The best seconds for all the calls, proved and plain, of rounds that take turns.
+pub fn best_times(calls: &[Call], rounds: usize) -> (f64, f64) {
     let start = busy();
-    let mut lent = call.lend();
+    let mut lent: Vec<Lent> = calls.iter().map(Call::lend).collect();
     let (mut proved, mut plain) = (f64::INFINITY, f64::INFINITY);
     for _ in 0..rounds {
-        proved = proved.min(seconds_a_call(|| {
-            let mut out = [0; 64];
-            linked::run(black_box(call), &mut lent, &mut out);
-            black_box(&out);
+        proved = proved.min(seconds_a_time(|| {
+            for (call, lent) in calls.iter().zip(&mut lent) {
+                let mut out = [0; 64];
+                linked::run(black_box(call), lent, &mut out);
+                black_box(&out);
+            }
         }));
-        plain = plain.min(seconds_a_call(|| {
-            black_box(black_box(call).run_plain_on(&mut lent));
+        plain = plain.min(seconds_a_time(|| {
+            for (call, lent) in calls.iter().zip(&mut lent) {
+                black_box(black_box(call).run_plain_on(lent));
+            }
         }));
         if busy() - start > MOST_TIME {
             break;
@@ -63,14 +68,14 @@ pub fn best_times(call: &Call, rounds: usize) -> (f64, f64) {
     (proved, plain)
 }
 
-fn seconds_a_call(mut call: impl FnMut()) -> f64 {
+fn seconds_a_time(mut work: impl FnMut()) -> f64 {
     let start = busy();
-    let mut calls = 0;
+    let mut times = 0;
     while busy() - start < LEAST_TIME {
-        call();
-        calls += 1;
+        work();
+        times += 1;
     }
-    (busy() - start).as_secs_f64() / f64::from(calls)
+    (busy() - start).as_secs_f64() / f64::from(times)
 }
 
 /// How many stars a search places; plain Rust counts them.
