@@ -139,7 +139,7 @@ module _ {a b c : ℤ} (i : Within 1000000000 a) (j : Within 1000000000 b) (k : 
         z = entry-within (h .t1 .z) (h .t2 .z) (h .t3 .z);
       }
 
-pub product-within : {t u : Axes} → AxesWithin t → AxesWithin u → MatrixWithin (productOf t u)
+pub product-within : {t u : Axes} → AxesWithin t → AxesWithin u → MatrixWithin 6000000000 (productOf t u)
 product-within h k =
     record {
       row0 = row-within (h .t1 .x) (h .t2 .x) (h .t3 .x) k;

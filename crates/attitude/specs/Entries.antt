@@ -1,5 +1,6 @@
 -- The matrix: row r and column s have the sum over the three axes of component r on the camera's side times component s on the catalogue's, over 10^9.
 -- Assumes nothing.
+use Prim.Native.Nat.{ℕ}
 use lib.IntN.{ℤ, pos, _+ℤ_, _*ℤ_}
 use lib.Signed.{quotZ}
 use Rattle.vectors.specs.declared.Vec3.{Vec3}
@@ -34,8 +35,8 @@ pub record AxesWithin (t : Axes) : Type 0 where
   pub t2 : Within3 1000000000 (t .t2)
   pub t3 : Within3 2000000000 (t .t3)
 
--- how large the entries of a matrix are
-pub record MatrixWithin (m : Matrix) : Type 0 where
-  pub row0 : Within3 6000000000 (m .row0)
-  pub row1 : Within3 6000000000 (m .row1)
-  pub row2 : Within3 6000000000 (m .row2)
+-- each entry of a matrix is within b of 0
+pub record MatrixWithin (b : ℕ) (m : Matrix) : Type 0 where
+  pub row0 : Within3 b (m .row0)
+  pub row1 : Within3 b (m .row1)
+  pub row2 : Within3 b (m .row2)

@@ -35,14 +35,15 @@ pub record InRange (camera1 camera2 sky1 sky2 : Vec3) : Type 0 where
   pub w1 : Within3 1000000000 sky1
   pub w2 : Within3 1000000000 sky2
 
-not-beyond : (v : Vec3) → (beyond v ≡ false) ↔ Within3 1000000000 v
-not-beyond v = (
-  λ e. wider3 (largest-within v) (ltb-false 1000000000 (largestOf v) e),
-  λ h. le-ltb 1000000000 (largestOf v) (omega (arith, h .x .within, h .y .within, h .z .within)),
+-- no magnitude is above b exactly where each of the three is within b
+pub largest-in : (b : ℕ) (v : Vec3) → (ltb b (largestOf v) ≡ false) ↔ Within3 b v
+largest-in b v = (
+  λ e. wider3 (largest-within v) (ltb-false b (largestOf v) e),
+  λ h. le-ltb b (largestOf v) (omega (arith, h .x .within, h .y .within, h .z .within)),
 )
 
 -- neither of two tests holds
-or-false : (a b : Bool) → ((a || b) ≡ false) ↔ ((a ≡ false) × (b ≡ false))
+pub or-false : (a b : Bool) → ((a || b) ≡ false) ↔ ((a ≡ false) × (b ≡ false))
 or-false true b = (λ e. absurd (true≢false e), λ h. h .0)
 or-false false b = (λ e. (refl, e), λ h. h .1)
 
@@ -50,7 +51,9 @@ or-false false b = (λ e. (refl, e), λ h. h .1)
 pub pair-in-range : (v w : Vec3) → ((beyond v || beyond w) ≡ false) ↔ (Within3 1000000000 v × Within3 1000000000 w)
 pair-in-range v w =
     let both = or-false (beyond v) (beyond w) in
-    (λ e. (not-beyond v .0 (both .0 e .0), not-beyond w .0 (both .0 e .1)), λ h. both .1 (not-beyond v .1 (h .0), not-beyond w .1 (h .1)))
+    let first = largest-in 1000000000 v in
+    let second = largest-in 1000000000 w in
+    (λ e. (first .0 (both .0 e .0), second .0 (both .0 e .1)), λ h. both .1 (first .1 (h .0), second .1 (h .1)))
 
 pub in-range : (v1 v2 w1 w2 : Vec3) → (outOfRange v1 v2 w1 w2 ≡ false) ↔ InRange v1 v2 w1 w2
 in-range v1 v2 w1 w2 =
@@ -107,11 +110,11 @@ module _ (m : Matrix) where
   close-or-found true = inl refl
   close-or-found false = inr refl
 
-  within-if : (a b : Bool) (n : Matrix) → given a b m ≡ Found n → (a ≡ false → MatrixWithin m) → MatrixWithin n
+  within-if : (a b : Bool) (n : Matrix) → given a b m ≡ Found n → (a ≡ false → MatrixWithin 6000000000 m) → MatrixWithin 6000000000 n
   unfolding lowest
   within-if true b n e h = absurd (eqb-false 8 0 refl (ap (λ (r : Attitude). answerOf r .number) e))
   within-if false true n e h = absurd (eqb-false 14 0 refl (ap (λ (r : Attitude). answerOf r .number) e))
-  within-if false false n e h = let same : m ≡ n = cc in subst MatrixWithin same (h refl)
+  within-if false false n e h = let same : m ≡ n = cc in subst (MatrixWithin 6000000000) same (h refl)
 
 module _ (v1 v2 w1 w2 : Vec3) where
   pub answers : answerOf (attitudeOf v1 v2 w1 w2) ≡ answerFor v1 v2 w1 w2
@@ -155,12 +158,12 @@ module _ (v1 v2 w1 w2 : Vec3) where
   unfolding attitudeOf
   in-range-answer h = rw (in-range v1 v2 w1 w2 .1 h) (close-or-found (matrixOf v1 v2 w1 w2) (eitherClose v1 v2 w1 w2))
 
-  matrix-within : InRange v1 v2 w1 w2 → MatrixWithin (matrixOf v1 v2 w1 w2)
+  matrix-within : InRange v1 v2 w1 w2 → MatrixWithin 6000000000 (matrixOf v1 v2 w1 w2)
   unfolding matrixOf
   matrix-within h = product-within (axes-within v1 v2 (h .v1)) (axes-within w1 w2 (h .w1))
 
   -- every entry of a matrix is within 6 * 10^9
-  pub entries-within : (m : Matrix) → attitudeOf v1 v2 w1 w2 ≡ Found m → MatrixWithin m
+  pub entries-within : (m : Matrix) → attitudeOf v1 v2 w1 w2 ≡ Found m → MatrixWithin 6000000000 m
   unfolding attitudeOf
   entries-within m e =
       within-if (matrixOf v1 v2 w1 w2) (outOfRange v1 v2 w1 w2) (eitherClose v1 v2 w1 w2) m e (λ f. matrix-within (in-range v1 v2 w1 w2 .0 f))

@@ -9,6 +9,7 @@ use refusal::Refusal;
 use vectors::Vec3;
 ghost use mathlib.Core.Path.{_≡_};
 ghost use Rattle.attitude.specs.Attitude.{attitudeOf, answerOf, answerFor};
+pub use scale::largest;
 
 // The matrix that carries sky to camera, 10^9 standing for 1.
 pub struct Matrix {

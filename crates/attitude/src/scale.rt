@@ -17,7 +17,7 @@ fn larger(a: u64, b: u64) -> u64
 }
 
 // The largest magnitude of the three.
-pub(crate) fn largest(v: Vec3) -> u64
+pub fn largest(v: Vec3) -> u64
     ensures { λ r. ⌜ r ≡ largestOf v ⌝ }
 {
     larger(

@@ -56,9 +56,12 @@ index = 17
 abbrev pub recordsRoom : ℕ
 recordsRoom = 18
 
+abbrev pub entry : ℕ
+entry = 23
+
 -- all of them, in their order
 abbrev pub inOrder : List ℕ
 inOrder =
     size ∷ samples ∷ threshold ∷ sample ∷ settings ∷ catalogue ∷ recordRule ∷ directions ∷
-    demand ∷ room ∷ ranking ∷ few ∷ noFit ∷ close ∷ pixel ∷ indexRoom ∷ index ∷
-    recordsRoom ∷ []
+    demand ∷ room ∷ ranking ∷ few ∷ noFit ∷ close ∷ pixel ∷ indexRoom ∷
+    index ∷ recordsRoom ∷ entry ∷ []

@@ -41,9 +41,11 @@ pub const INDEX_ROOM: u32 = 16;
 pub const INDEX: u32 = 17;
 // The room lent for a burst's records is shorter than the records.
 pub const RECORDS_ROOM: u32 = 18;
+// A matrix entry handed in is beyond 8 * 10^9.
+pub const ENTRY: u32 = 23;
 
 // All of them in the table's order, each the number that specs/Numbers has under its name.
-pub fn numbers_in_order() -> [u32; 18]
+pub fn numbers_in_order() -> [u32; 19]
     ensures { λ r. ⌜ r ≡ inOrder ⌝ }
 {
     [
@@ -65,6 +67,7 @@ pub fn numbers_in_order() -> [u32; 18]
         INDEX_ROOM,
         INDEX,
         RECORDS_ROOM,
+        ENTRY,
     ]
 }
 
