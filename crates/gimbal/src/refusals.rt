@@ -4,7 +4,7 @@ use refusal::Outcome;
 use vectors::Vec3;
 ghost use mathlib.Core.Path.{_≡_};
 ghost use Rattle.refusal.specs.Table.{lowest};
-ghost use Rattle.gimbal.specs.Cosines.{beyond, refusalsOf};
+ghost use Rattle.gimbal.specs.Cosines.{beyond, outOfRange, refusalsOf};
 
 // How far from 0 an entry may lie.
 const LARGEST: u64 = 8_000_000_000;
@@ -16,16 +16,23 @@ fn row_beyond(v: Vec3) -> bool
     attitude::largest(v) > LARGEST
 }
 
+// Whether an entry of the matrix does.
+fn out_of_range(m: Matrix) -> bool
+    ensures { λ r. ⌜ r ≡ outOfRange m ⌝ }
+{
+    if row_beyond(m.row0) {
+        return true;
+    }
+    if row_beyond(m.row1) {
+        return true;
+    }
+    row_beyond(m.row2)
+}
+
 pub(crate) fn tested(m: Matrix) -> Outcome
     ensures { λ r. ⌜ r ≡ lowest (refusalsOf m) ⌝ }
 {
-    if row_beyond(m.row0) {
-        return refusal::plain(refusal::ENTRY);
-    }
-    if row_beyond(m.row1) {
-        return refusal::plain(refusal::ENTRY);
-    }
-    if row_beyond(m.row2) {
+    if out_of_range(m) {
         return refusal::plain(refusal::ENTRY);
     }
     Outcome::Accepted
