@@ -1,10 +1,8 @@
 // The C interface of the stars' calls: a position's direction, the catalogue's check, the ranking, the search, and the attitude.
 mod answers;
 
-use vectors::Vec3;
+use handover::vector_at;
 ghost use mathlib.Core.Path.{_≡_};
-ghost use Prim.Native.Nat.{_+_, _≤_};
-ghost use lib.ListN.{length};
 ghost use Rattle.direction.specs.Direction.{directionOf};
 ghost use Rattle.direction.specs.ListLaws.{directionsIn};
 ghost use Rattle.catalogue.specs.Format.{recordsIn};
@@ -16,7 +14,7 @@ ghost use Rattle.handover.specs.Numbers.{rankingNumbers};
 ghost use Rattle.exports_stars.specs.Direction.{directionNumbers};
 ghost use Rattle.exports_stars.specs.Catalogue.{catalogueNumbers};
 ghost use Rattle.exports_stars.specs.Search.{searchNumbers};
-ghost use Rattle.exports_stars.specs.Attitude.{vectorAt, attitudeHanded};
+ghost use Rattle.exports_stars.specs.Attitude.{attitudeHanded};
 
 // The direction of a position.
 #[no_mangle]
@@ -71,18 +69,6 @@ pub extern "C" fn mnemathor_search(
         out,
         answers::of_search(identification, directions.len() / 3, stars),
     );
-}
-
-// Three numbers from a place on.
-fn vector_at(numbers: &[i64], i: usize) -> Vec3
-    requires { ⌜ i + 3 ≤ length (now numbers) ⌝ }
-    ensures { λ r. ⌜ r ≡ vectorAt (now (numbers .entry)) i ⌝ }
-{
-    Vec3 {
-        x: numbers[i],
-        y: numbers[i + 1],
-        z: numbers[i + 2],
-    }
 }
 
 // The attitude of four vectors, three numbers each: camera v1 and v2, star v1 and v2. Of another count of numbers nothing is done.

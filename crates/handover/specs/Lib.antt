@@ -4,3 +4,4 @@ pub mod Numbers
 pub mod Matrix
 pub mod Stars
 pub mod Handed
+pub mod Copied

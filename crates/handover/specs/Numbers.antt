@@ -2,7 +2,7 @@
 use mathlib.Core.Bool.{cond}
 use mathlib.Core.List.{List, [], _∷_}
 use Prim.Native.Nat.{ℕ, _+_, _-_}
-use lib.ListN.{set}
+use lib.ListN.{getD, set}
 use lib.Dec.{ltb}
 use lib.IntN.{ℤ, pos, negsuc}
 use Rattle.refusal.specs.declared.Refusal.{Refusal}
@@ -37,3 +37,7 @@ vectorNumbers v = v .x ∷ (v .y ∷ (v .z ∷ []))
 -- the list with a vector's numbers from a place on
 abbrev pub withVector : List ℤ → ℕ → Vec3 → List ℤ
 withVector xs i v = set (set (set xs i (v .x)) (i + 1) (v .y)) (i + 2) (v .z)
+
+-- three numbers of a list, from a place on
+abbrev pub vectorAt : List ℤ → ℕ → Vec3
+vectorAt xs i = record { x = getD xs i (pos 0); y = getD xs (i + 1) (pos 0); z = getD xs (i + 2) (pos 0) }

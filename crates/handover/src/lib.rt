@@ -6,8 +6,9 @@ use refusal::Refusal;
 use vectors::Vec3;
 ghost use mathlib.Core.Path.{_≡_};
 ghost use mathlib.Core.List.{[], _∷_};
-ghost use Prim.Native.Nat.{_≤_};
-ghost use Rattle.handover.specs.Numbers.{signedOf, refusedNumbers, acceptedNumbers, outcomeNumbers, rankingNumbers, vectorNumbers, withVector};
+ghost use Prim.Native.Nat.{_+_, _≤_};
+ghost use lib.ListN.{length};
+ghost use Rattle.handover.specs.Numbers.{signedOf, refusedNumbers, acceptedNumbers, outcomeNumbers, rankingNumbers, vectorNumbers, withVector, vectorAt};
 ghost use Rattle.handover.specs.Room.{handedOver};
 ghost use Rattle.handover.specs.Matrix.{matrixNumbers, withMatrix};
 ghost use Rattle.handover.specs.Stars.{withStar, withStars, nameAt, withNames};
@@ -71,6 +72,18 @@ pub fn put_vector(flat: [i64; 64], at: usize, v: Vec3) -> [i64; 64]
     put[at + 1] = y;
     put[at + 2] = z;
     put
+}
+
+// Three numbers of a lent list, from a place on.
+pub fn vector_at(numbers: &[i64], i: usize) -> Vec3
+    requires { ⌜ i + 3 ≤ length (now numbers) ⌝ }
+    ensures { λ r. ⌜ r ≡ vectorAt (now (numbers .entry)) i ⌝ }
+{
+    Vec3 {
+        x: numbers[i],
+        y: numbers[i + 1],
+        z: numbers[i + 2],
+    }
 }
 
 pub fn of_vector(v: Vec3) -> [i64; 64]

@@ -1,18 +1,17 @@
 -- `handover::hand_over` meets its contract. The invariant: the room begins with the numbers passed, and the rest of it is as it was. Assumes nothing.
 use borrow.Author.Needs.{needs}
 use borrow.Author.Tests.{lt-ltb, le-ltb}
-use mathlib.Core.Path.{_≡_, refl, sym, ap, _∙_}
-use mathlib.Core.List.{List, _∷_, _++_}
-use Prim.Native.Nat.{ℕ, suc, _+_, _-_, _≤_, _<_}
-use native.Mathlib.Nat.{le-of-lt}
-use native.Mathlib.Numerals.{add-one}
+use mathlib.Core.Path.{_≡_, refl, _∙_}
+use mathlib.Core.List.{_++_}
+use Prim.Native.Nat.{_-_, _≤_}
 use native.Mathlib.Omega.{arith}
-use lib.IntN.{ℤ, pos}
-use lib.ListN.{length, take, drop, getD, set, length-set}
+use lib.IntN.{pos}
+use lib.ListN.{length, take, drop, getD, length-set}
 use mir.Syntax.{w64}
 use Rattle.numbers.specs.Num.{kept}
-use lib.Seq.{append-snoc, drop-cons, length-take-le, set-at, take-all, take-suc}
+use lib.Seq.{take-all}
 use Rattle.handover.specs.Room.{handedOver}
+use Rattle.handover.specs.Copied.{copied}
 use Rattle.handover.proofs.hand_over.Statement.{statement}
 use Rattle.handover.proofs.hand_over.Tie as tie
 use Rattle.handover.proofs.hand_over.Reads as reads
@@ -23,17 +22,6 @@ Inv-loop out₀ flat i₀ out i = (i ≤ 64) × (64 ≤ length out₀) × (lengt
 
 abbrev μ-loop : tie.MeasureT-loop
 μ-loop out₀ flat i₀ out i = 64 - i
-
--- one number more
-stored : (numbers room : List ℤ) (i : ℕ) → i < length numbers → i < length room
-    → set (take i numbers ++ drop i room) i (getD numbers i (pos 0)) ≡ take (i + 1) numbers ++ drop (i + 1) room
-stored numbers room i hn hr =
-    let x = getD numbers i (pos 0) in
-    ap (λ (r : List ℤ). set (take i numbers ++ r) i x) (drop-cons room i (pos 0) hr)
-    ∙ set-at (take i numbers) (getD room i (pos 0)) (drop (suc i) room) x i (length-take-le i numbers (le-of-lt hn))
-    ∙ sym (append-snoc (take i numbers) x (drop (suc i) room))
-    ∙ ap (λ (r : List ℤ). r ++ drop (suc i) room) (sym (take-suc numbers i (pos 0) hn))
-    ∙ ap (λ (k : ℕ). take k numbers ++ drop k room) (sym (add-one i))
 
 returns : tie.Need-returns Inv-loop μ-loop
 unfolding handedOver
@@ -69,7 +57,7 @@ loop-again c =
       l .inv .1,
       l .inv .2,
       simp length-set (l .inv .3),
-      rw (e, l .inv .4) (stored (s .args .t2) (s .args .out .now) (l .i) (search needs) (search needs)),
+      rw (e, l .inv .4) (copied (pos 0) (s .args .t2) (s .args .out .now) (l .i) (search needs) (search needs)),
     )
 
 same-length : tie.Need-same-length Inv-loop μ-loop
