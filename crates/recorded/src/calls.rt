@@ -6,7 +6,7 @@ use crate::print::print_end;
 use crate::print::print_more;
 use crate::stream::expand;
 use crate::stream::read_directions;
-use crate::stream::read_vectors;
+use crate::stream::read_wholes;
 use crate::stream::read_words;
 use crate::stream::word;
 use handover::signed;
@@ -128,7 +128,7 @@ pub fn search(fd: i32, bytes: &mut [u8], stars: &mut [u8], room: &mut [u16]) {
 
 pub fn attitude(fd: i32, bytes: &mut [u8]) {
     let mut vectors = [0i64; 12];
-    let n = read_vectors(fd, bytes, &mut vectors);
+    let n = read_wholes(fd, bytes, &mut vectors);
     let mut out = [0i64; 64];
     exports_stars::mnemathor_attitude(&vectors[0..n], &mut out);
     print_call(7, &out, 11);

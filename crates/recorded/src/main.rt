@@ -1,5 +1,6 @@
 // Runs the recorded calls of cases.bin and prints what each hands over.
 mod calls;
+mod gimbal;
 mod print;
 mod stream;
 
@@ -25,6 +26,8 @@ fn run(
         11 => calls::ranking_by_index(fd, bytes, stars, index, room),
         12 => calls::chain_by_index(fd, bytes, samples, stars, index, room),
         13 => calls::burst(fd, bytes, samples, stars, room, index),
+        14 => gimbal::cosines(fd, bytes),
+        15 => gimbal::turned(fd, bytes),
         8 => calls::chain(fd, bytes, samples, stars, room),
         _ => calls::reason(fd, bytes, samples),
     }

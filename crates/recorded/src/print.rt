@@ -32,6 +32,23 @@ pub fn print_more(n: u64) {
     io::print_decimal(STDOUT_FILENO, n);
 }
 
+// A float by its bits. Any pattern that is not a number stands for any other, and all ones are printed for it.
+fn print_float(x: f64) {
+    if x != x {
+        print_more(0xffff_ffff_ffff_ffff);
+    } else {
+        print_more(floats::bits_of(x));
+    }
+}
+
+pub fn print_floats(floats: &[f64]) {
+    let mut i: usize = 0;
+    while i < floats.len() {
+        print_float(floats[i]);
+        i += 1;
+    }
+}
+
 pub fn print_end() {
     io::write_all(STDOUT_FILENO, b"\n");
 }

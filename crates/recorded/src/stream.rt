@@ -179,6 +179,19 @@ fn wholes(bytes: &[u8], room: &mut [i64]) -> usize
     count
 }
 
+// The floats whose bits are 8 bytes each, at the start of the room.
+fn doubles(bytes: &[u8], room: &mut [f64]) -> usize
+    ensures { λ r. ⌜ r ≤ length (now (room .exit)) ⌝ }
+{
+    let count = least(bytes.len() / 8, room.len());
+    let mut i: usize = 0;
+    while i < count {
+        room[i] = floats::float_of(number(bytes, 8 * i, 8));
+        i += 1;
+    }
+    count
+}
+
 // Reads a buffer of samples or of ranking words, and answers how many it has. `bytes` is room to expand it in.
 pub fn read_words(fd: i32, bytes: &mut [u8], room: &mut [u16]) -> usize
     ensures { λ r. ⌜ r ≤ length (now (room .exit)) ⌝ }
@@ -195,10 +208,18 @@ pub fn read_directions(fd: i32, bytes: &mut [u8], room: &mut [i32]) -> usize
     halves(&bytes[0..size], room)
 }
 
-// Reads a buffer of the attitude's numbers.
-pub fn read_vectors(fd: i32, bytes: &mut [u8], room: &mut [i64]) -> usize
+// Reads a buffer of the attitude's numbers, or of a matrix.
+pub fn read_wholes(fd: i32, bytes: &mut [u8], room: &mut [i64]) -> usize
     ensures { λ r. ⌜ r ≤ length (now (room .exit)) ⌝ }
 {
     let size = expand(fd, 8, bytes);
     wholes(&bytes[0..size], room)
+}
+
+// Reads a buffer of floats.
+pub fn read_floats(fd: i32, bytes: &mut [u8], room: &mut [f64]) -> usize
+    ensures { λ r. ⌜ r ≤ length (now (room .exit)) ⌝ }
+{
+    let size = expand(fd, 8, bytes);
+    doubles(&bytes[0..size], room)
 }
