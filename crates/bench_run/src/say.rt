@@ -1,4 +1,5 @@
 // What the program prints: words and numbers, each after a space, on lines that start with the case's letter.
+use gimbal::Triple;
 use libc::STDOUT_FILENO;
 use refusal::Refusal;
 use vectors::Vec3;
@@ -28,6 +29,12 @@ pub fn vector(v: Vec3) {
     signed(v.x);
     signed(v.y);
     signed(v.z);
+}
+
+pub fn triple(t: Triple) {
+    number(floats::bits_of(t.x));
+    number(floats::bits_of(t.y));
+    number(floats::bits_of(t.z));
 }
 
 pub fn refused(refusal: Refusal) {

@@ -1,7 +1,8 @@
-// Cases G to S: directions, attitudes and searches.
+// Cases G to S: directions, attitudes, direction cosines and searches.
 use crate::say;
 use attitude::Attitude;
 use direction::Direction;
+use gimbal::Gimbal;
 use refusal::Outcome;
 use vectors::Vec3;
 
@@ -30,6 +31,32 @@ fn attitude(letter: &[u8], v1: Vec3, v2: Vec3, w1: Vec3, w2: Vec3) {
             say::vector(row1);
             say::vector(row2);
         }
+    }
+    say::end();
+}
+
+// What the gimbal computer is sent: each float by its bits.
+fn rows(gimbal: Gimbal) {
+    match gimbal {
+        Gimbal::Refused(refusal) => say::refused(refusal),
+        Gimbal::Rows(cosines) => {
+            let row0 = cosines.row0;
+            let row1 = cosines.row1;
+            let row2 = cosines.row2;
+            say::triple(row0);
+            say::triple(row1);
+            say::triple(row2);
+        }
+    }
+}
+
+fn cosines(letter: &[u8], v1: Vec3, v2: Vec3, w1: Vec3, w2: Vec3) {
+    say::text(letter);
+    say::text(b" cosines");
+    let answer = attitude::triad(v1, v2, w1, w2);
+    match answer {
+        Attitude::Refused(refusal) => say::refused(refusal),
+        Attitude::Found(matrix) => rows(gimbal::cosines_of(matrix)),
     }
     say::end();
 }
@@ -94,7 +121,9 @@ fn vectors() {
     direction(b"G", 12288, 12288);
     direction(b"H", 12288, 0);
     attitude(b"I", out, right, out, right);
+    cosines(b"I", out, right, out, right);
     attitude(b"J", out, down, out, right);
+    cosines(b"J", out, down, out, right);
     attitude(b"K", out, out, out, right);
 }
 

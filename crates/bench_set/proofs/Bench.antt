@@ -50,8 +50,9 @@ use Rattle.search.specs.declared.Identification.{Identification}
 use Rattle.search.specs.Identified.{padTo, identificationOf}
 use Rattle.search.proofs.Answers.{identified}
 use Rattle.attitude.specs.Bench.{case-I, case-J, case-K}
+use Rattle.gimbal.specs.Bench as gimbal
 use Rattle.bench_set.specs.Frames.{side, evenly}
-use Rattle.bench_set.specs.Case.{search, judgedAs, Holds, AllHold}
+use Rattle.bench_set.specs.Case.{search, judgedAs, sentOf, Holds, AllHold}
 use Rattle.bench_set.specs.Table.{minus, vec, found, table}
 
 -- ---- F: every pixel but the first
@@ -127,13 +128,13 @@ directions-hold below = (
   (direction-by (pos 12288) (pos 0) (pos 16384) (pos 0) (pos 0) refl refl n-H, below),
 )
 
--- I, J and K
-attitudes-hold : AllHold (drop 13 table) → AllHold (drop 10 table)
+-- I, J and K, and the first two as direction cosines
+attitudes-hold : AllHold (drop 15 table) → AllHold (drop 10 table)
 unfolding table
-attitudes-hold below = (case-I, (case-J, (case-K, below)))
+attitudes-hold below = (case-I, (ap sentOf case-I ∙ gimbal.case-I, (case-J, (ap sentOf case-J ∙ gimbal.case-J, (case-K, below)))))
 
 -- L to S
-searches-hold : AllHold (drop 21 table) → AllHold (drop 13 table)
+searches-hold : AllHold (drop 23 table) → AllHold (drop 15 table)
 unfolding table lowest identificationOf padTo refusals.refusalsOf refusals.rowsBeside refusals.demandOk lentOf clash first firstFrom some all
     listOk allWithin
     catalogue.refusalsOf catalogue.lengthOk catalogue.brokenOf recordOk directionOk identityRises componentOf identityOf numberAt signedOf starsOf starsTo
@@ -141,7 +142,7 @@ unfolding table lowest identificationOf padTo refusals.refusalsOf refusals.rowsB
 searches-hold below = (only refl, (only refl, (only refl, (only refl, (only refl, (only refl, (only refl, (only refl, below))))))))
 
 -- T to W
-lone-hold : AllHold (drop 21 table)
+lone-hold : AllHold (drop 23 table)
 unfolding table lowest judgementOf firstOver first firstFrom kindOf peakKind edge lone beaten beats earlier some-below
     centroidOf brightness shiftX shiftY sum-below sumℤ-below borderSum
 lone-hold = (refl, (refl, (refl, (refl, tt))))

@@ -1,6 +1,6 @@
 -- Document 01, "The bench set": cases A to O, one under the other, with the numbers that stand there, A and D lone as T-06 has them, P to S for T-03's
--- rule over threes, and T to W for T-06's rule. Where a case names only some numbers of a verdict the rest follow from the same rules, worked out by
--- hand. Assumes nothing.
+-- rule over threes, T to W for T-06's rule, and the matrices of I and J as T-08's direction cosines. Where a case names only some numbers of a verdict
+-- the rest follow from the same rules, worked out by hand. Assumes nothing.
 use mathlib.Core.List.{List, [], _∷_, _++_}
 use Prim.Native.Nat.{ℕ}
 use lib.IntN.{ℤ, pos, negℤ}
@@ -12,10 +12,14 @@ use Rattle.direction.specs.declared.Direction.{Direction}
 use Rattle.direction.specs.declared.Direction.the-variants as toward
 use Rattle.attitude.specs.declared.Attitude.{Attitude}
 use Rattle.attitude.specs.declared.Attitude.the-variants as turned
+use Rattle.gimbal.specs.declared.Triple.{Triple}
+use Rattle.gimbal.specs.declared.Gimbal.{Gimbal}
+use Rattle.gimbal.specs.declared.Gimbal.the-variants.{Rows}
+use Rattle.gimbal.specs.Bench.{one, minusOne, nought, triple}
 use Rattle.search.specs.declared.Identification.{Identification}
 use Rattle.search.specs.Identified.{refusedWith, padTo}
 use Rattle.bench_set.specs.Frames.{lit, evenly, frameOf}
-use Rattle.bench_set.specs.Case.{Case, pixel, others, direction, attitude, search}
+use Rattle.bench_set.specs.Case.{Case, pixel, others, direction, attitude, cosines, search}
 
 -- ---- answers, in document 01's numbers
 
@@ -36,6 +40,10 @@ rows a b c = turned.Found (record { row0 = a; row1 = b; row2 = c })
 
 abbrev pub unturned : ℕ → Attitude
 unturned number = turned.Refused (record { number = number; place = 0 })
+
+-- rows of floats: `one` is exactly 1, and `nought` is 0 without a sign
+abbrev pub sent : Triple → Triple → Triple → Gimbal
+sent a b c = Rows (record { row0 = a; row1 = b; row2 = c })
 
 -- the stars of the directions; a word behind the last direction is 0
 abbrev pub stars : List ℕ → Identification
@@ -150,11 +158,19 @@ table =
     (vec (pos 0) (pos 0) (pos 1000000000)) (vec (pos 1000000000) (pos 0) (pos 0))
     (vec (pos 0) (pos 0) (pos 1000000000)) (vec (pos 1000000000) (pos 0) (pos 0))
     (rows (vec (pos 1000000000) (pos 0) (pos 0)) (vec (pos 0) (pos 1000000000) (pos 0)) (vec (pos 0) (pos 0) (pos 1000000000)))
+    ∷ cosines
+    (vec (pos 0) (pos 0) (pos 1000000000)) (vec (pos 1000000000) (pos 0) (pos 0))
+    (vec (pos 0) (pos 0) (pos 1000000000)) (vec (pos 1000000000) (pos 0) (pos 0))
+    (sent (triple one nought nought) (triple nought one nought) (triple nought nought one))
     -- J
     ∷ attitude
     (vec (pos 0) (pos 0) (pos 1000000000)) (vec (pos 0) (pos 1000000000) (pos 0))
     (vec (pos 0) (pos 0) (pos 1000000000)) (vec (pos 1000000000) (pos 0) (pos 0))
     (rows (vec (pos 0) (minus 1000000000) (pos 0)) (vec (pos 1000000000) (pos 0) (pos 0)) (vec (pos 0) (pos 0) (pos 1000000000)))
+    ∷ cosines
+    (vec (pos 0) (pos 0) (pos 1000000000)) (vec (pos 0) (pos 1000000000) (pos 0))
+    (vec (pos 0) (pos 0) (pos 1000000000)) (vec (pos 1000000000) (pos 0) (pos 0))
+    (sent (triple nought minusOne nought) (triple one nought nought) (triple nought nought one))
     -- K
     ∷ attitude
     (vec (pos 0) (pos 0) (pos 1000000000)) (vec (pos 0) (pos 0) (pos 1000000000))
