@@ -3,9 +3,10 @@
 use crate::answer::{numbers, Numbers};
 use crate::burst::burst_within;
 use crate::chain::{chain_by_index_within, chain_within, Settings};
+use crate::float::{settled, Float};
 use crate::index::Index;
 use crate::search::{search_within, Effort, GaveUp};
-use crate::{attitude, catalogue, direction, frame, index, plain, ranking};
+use crate::{attitude, catalogue, direction, frame, gimbal, index, plain, ranking};
 
 #[derive(Debug, Clone, Copy, PartialEq, Eq)]
 pub enum Entry {
@@ -22,9 +23,11 @@ pub enum Entry {
     RankingByIndex,
     ChainByIndex,
     Burst,
+    Cosines,
+    Turned,
 }
 
-pub const ENTRIES: [Entry; 13] = [
+pub const ENTRIES: [Entry; 15] = [
     Entry::Verdict,
     Entry::List,
     Entry::Direction,
@@ -38,6 +41,8 @@ pub const ENTRIES: [Entry; 13] = [
     Entry::RankingByIndex,
     Entry::ChainByIndex,
     Entry::Burst,
+    Entry::Cosines,
+    Entry::Turned,
 ];
 
 impl Entry {
@@ -56,6 +61,8 @@ impl Entry {
             Entry::RankingByIndex => "ranking by index",
             Entry::ChainByIndex => "chain by index",
             Entry::Burst => "burst",
+            Entry::Cosines => "cosines",
+            Entry::Turned => "row by target",
         }
     }
 
@@ -70,7 +77,7 @@ impl Entry {
 
     /// How many of the 64 numbers the recorded output shows.
     pub fn numbers_shown(self) -> usize {
-        [8, 30, 5, 3, 2, 11, 11, 47, 6, 3, 2, 47, 3][self.index()]
+        [8, 30, 5, 3, 2, 11, 11, 47, 6, 3, 2, 47, 3, 2, 2][self.index()]
     }
 
     /// Whether plain Rust has this call too.
@@ -93,6 +100,8 @@ impl Entry {
             Entry::RankingByIndex => &[6, 7, 17, 8, 9, 10],
             Entry::ChainByIndex => &[1, 2, 3, 4, 5, 6, 7, 17, 9, 10, 12, 13, 14],
             Entry::Burst => &[1, 2, 18],
+            Entry::Cosines => &[23],
+            Entry::Turned => &[],
         }
     }
 
@@ -119,7 +128,7 @@ macro_rules! element {
         }
     )*};
 }
-element!(u8, u16, i32, i64);
+element!(u8, u16, i32, i64, u64);
 
 /// A lent buffer: a repeated pattern with patches on top, so that a large frame takes little room in a file.
 #[derive(Debug, Clone, Default)]
@@ -234,6 +243,12 @@ pub struct Call {
     pub index: Buffer<u8>,
     /// The room for an index to be built, or for a burst's records.
     pub bytes: Buffer<u8>,
+    pub matrix: Buffer<i64>,
+    /// The room for the direction cosines, or the rows that a target is turned by.
+    pub rows: Buffer<Float>,
+    pub target: Buffer<Float>,
+    /// The room for the turned target.
+    pub turned: Buffer<Float>,
 }
 
 /// The buffers of a call, as memory.
@@ -247,21 +262,29 @@ pub struct Lent {
     pub vectors: Vec<i64>,
     pub index: Vec<u8>,
     pub bytes: Vec<u8>,
+    pub matrix: Vec<i64>,
+    pub rows: Vec<Float>,
+    pub target: Vec<Float>,
+    pub turned: Vec<Float>,
 }
 
 impl Lent {
-    /// The four vectors of an attitude call.
-    pub fn four_vectors(&self) -> [i64; 12] {
-        self.vectors[..].try_into().expect("an attitude is asked for with twelve numbers")
+    /// Any non-number that a call has written is as good as another.
+    pub fn settle_floats(&mut self) {
+        self.turned.iter_mut().for_each(|float| *float = settled(*float));
     }
 }
 
-/// What a call gives: its numbers, and the rooms it was lent to write in.
+/// The elements of a buffer that a call is lent with just so many.
+pub fn exactly<T: Copy, const N: usize>(values: &[T]) -> [T; N] {
+    values.try_into().expect("the call is lent so many numbers")
+}
+
+/// What a call gives: its numbers, and all it was lent as it is after the call.
 #[derive(Debug, Clone, PartialEq, Eq)]
 pub struct Outcome {
     pub out: Numbers,
-    pub room: Vec<u16>,
-    pub bytes: Vec<u8>,
+    pub lent: Lent,
 }
 
 impl Call {
@@ -289,6 +312,10 @@ impl Call {
             floor: 0,
             index: Buffer::default(),
             bytes: Buffer::default(),
+            matrix: Buffer::default(),
+            rows: Buffer::default(),
+            target: Buffer::default(),
+            turned: Buffer::default(),
         }
     }
 
@@ -301,7 +328,7 @@ impl Call {
             }
             Entry::List => vec![self.width, self.height, self.threshold],
             Entry::Direction => [self.cx, self.cy, self.focal, self.x, self.y].map(signed).to_vec(),
-            Entry::Catalogue | Entry::Attitude => vec![],
+            Entry::Catalogue | Entry::Attitude | Entry::Cosines | Entry::Turned => vec![],
             Entry::Ranking => vec![self.tolerance],
             Entry::Search => vec![self.needed, self.tolerance],
             Entry::Chain | Entry::Burst => vec![
@@ -378,6 +405,15 @@ impl Call {
                 self.room.write(bytes);
                 self.bytes.write(bytes);
             }
+            Entry::Cosines => {
+                self.matrix.write(bytes);
+                self.rows.write(bytes);
+            }
+            Entry::Turned => {
+                self.rows.write(bytes);
+                self.target.write(bytes);
+                self.turned.write(bytes);
+            }
         }
     }
 
@@ -405,6 +441,10 @@ impl Call {
             vectors: self.vectors.values(),
             index: self.index.values(),
             bytes: self.bytes.values(),
+            matrix: self.matrix.values(),
+            rows: self.rows.values(),
+            target: self.target.values(),
+            turned: self.turned.values(),
         }
     }
 
@@ -434,7 +474,7 @@ impl Call {
                 &lent.ranking,
                 effort,
             )?),
-            Entry::Attitude => numbers(&attitude::attitude(&lent.four_vectors())),
+            Entry::Attitude => numbers(&attitude::attitude(&exactly(&lent.vectors))),
             Entry::Chain => {
                 numbers(&chain_within(&lent.samples, &set, &lent.catalogue, &mut lent.room, effort)?)
             }
@@ -465,14 +505,24 @@ impl Call {
                 &mut lent.bytes,
                 effort,
             )?),
+            Entry::Cosines => {
+                let rows = gimbal::cosines(&exactly(&lent.matrix));
+                numbers(&rows.map(|rows| lent.rows.copy_from_slice(&rows)))
+            }
+            Entry::Turned => {
+                let turned = gimbal::turned(&exactly(&lent.rows), &exactly(&lent.target));
+                lent.turned.copy_from_slice(&turned);
+                numbers(&Ok(()))
+            }
         };
-        Ok(Outcome { out, room: lent.room, bytes: lent.bytes })
+        Ok(Outcome { out, lent })
     }
 
     pub fn run_plain(&self) -> Outcome {
         let mut lent = self.lend();
         let out = self.run_plain_on(&mut lent);
-        Outcome { out, room: lent.room, bytes: lent.bytes }
+        lent.settle_floats();
+        Outcome { out, lent }
     }
 
     /// The numbers plain Rust gives for the buffers lent, for a call that it has.
@@ -497,7 +547,7 @@ impl Call {
                 self.tolerance,
                 &lent.ranking,
             )),
-            Entry::Attitude => numbers(&plain::attitude(&lent.four_vectors())),
+            Entry::Attitude => numbers(&plain::attitude(&exactly(&lent.vectors))),
             Entry::Chain => numbers(&plain::chain(
                 &lent.samples,
                 width,
@@ -547,6 +597,16 @@ impl Call {
                 &mut lent.room,
                 &mut lent.bytes,
             )),
+            Entry::Cosines => {
+                let rows = plain::cosines(&exactly(&lent.matrix));
+                numbers(&rows.map(|rows| lent.rows.copy_from_slice(&rows.map(f64::to_bits))))
+            }
+            Entry::Turned => {
+                let (rows, target) = (exactly(&lent.rows), exactly(&lent.target));
+                let turned = plain::turned(&rows.map(f64::from_bits), &target.map(f64::from_bits));
+                lent.turned.copy_from_slice(&turned.map(f64::to_bits));
+                numbers(&Ok(()))
+            }
             Entry::Reason => panic!("plain Rust has no {}", self.entry.name()),
         }
     }
@@ -562,5 +622,14 @@ impl Call {
     /// Whether the call is lent a room of bytes to write in.
     pub fn writes_bytes(&self) -> bool {
         matches!(self.entry, Entry::Index | Entry::Burst)
+    }
+
+    /// The floats that the call was lent room for, as they are after it.
+    pub fn floats_written<'a>(&self, lent: &'a Lent) -> &'a [Float] {
+        match self.entry {
+            Entry::Cosines => &lent.rows,
+            Entry::Turned => &lent.turned,
+            _ => &[],
+        }
     }
 }

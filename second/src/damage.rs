@@ -1,7 +1,7 @@
 //! Damage that gives each refusal, in each of its ways.
 
 use crate::call::{Buffer, Call, Entry};
-use crate::generate::{index_bytes, mirrored_catalogue, HUGE, MOST_TOLERANCE};
+use crate::generate::{index_bytes, mirrored_catalogue, FARTHEST_ENTRY, HUGE, MOST_TOLERANCE};
 use crate::index::RECORD_BYTES;
 use crate::random::Random;
 use crate::sky;
@@ -70,6 +70,11 @@ pub fn damage(call: &mut Call, reason: u8, random: &Random) {
         18 => {
             let short = [call.bytes.len.saturating_sub(81), call.bytes.len / 2, 79, 0];
             call.bytes = call.bytes.resized(random.pick(&short).min(call.bytes.len));
+        }
+        23 => {
+            let beyond = [FARTHEST_ENTRY + 1, i64::MAX, (1 << 32) + 5 + FARTHEST_ENTRY];
+            let entry = random.pick(&beyond) * random.pick(&[1, -1]);
+            call.matrix.set(random.below(9), random.pick(&[entry, entry, i64::MIN]));
         }
         _ => {}
     }

@@ -7,6 +7,10 @@ use crate::random::Random;
 use crate::sky::{self, Turn};
 use crate::{catalogue, direction, dot, frame, index, ranking};
 
+mod gimbal;
+
+pub use gimbal::*;
+
 pub const MOST_TOLERANCE: u64 = 10_000_000_000_000_000;
 
 /// Numbers far out of any range; many would fall back into it if their high bits were lost.
@@ -461,8 +465,10 @@ pub fn any_call(random: &Random, entry: Entry) -> Call {
             let first = any_chain(random);
             burst_of(random, &first, frames)
         }
+        Entry::Cosines => any_cosines(random),
+        Entry::Turned => any_turned(random),
     };
-    if random.chance(35) {
+    if random.chance(35) && !entry.faults().is_empty() {
         for _ in 0..random.pick(&[1, 1, 1, 2, 3]) {
             let reason = random.pick(entry.faults());
             damage(&mut call, reason, random);

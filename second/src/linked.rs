@@ -1,6 +1,7 @@
 //! The proved library, called through its C interface.
 
 use crate::call::{Call, Entry, Lent};
+use crate::float::Float;
 
 // A slice is a pointer and a length in elements; each call writes its answer into `out`.
 extern "C" {
@@ -143,6 +144,24 @@ extern "C" {
         out: *mut i64,
         out_len: usize,
     );
+    fn mnemathor_cosines(
+        matrix: *const i64,
+        matrix_len: usize,
+        rows: *mut f64,
+        rows_len: usize,
+        out: *mut i64,
+        out_len: usize,
+    );
+    fn mnemathor_turned(
+        rows: *const f64,
+        rows_len: usize,
+        target: *const f64,
+        target_len: usize,
+        turned: *mut f64,
+        turned_len: usize,
+        out: *mut i64,
+        out_len: usize,
+    );
 }
 
 /// Makes the call with the buffers lent and this room for the numbers. All buffers are lent as memory that
@@ -158,6 +177,10 @@ pub fn run(call: &Call, lent: &mut Lent, out: &mut [i64]) {
     let vectors = (lent.vectors.as_mut_ptr(), lent.vectors.len());
     let index = (lent.index.as_mut_ptr(), lent.index.len());
     let bytes = (lent.bytes.as_mut_ptr(), lent.bytes.len());
+    let matrix = (lent.matrix.as_mut_ptr(), lent.matrix.len());
+    let rows = floats(&mut lent.rows);
+    let target = floats(&mut lent.target);
+    let turned = floats(&mut lent.turned);
     let out = (out.as_mut_ptr(), out.len());
     // Safe as long as the library keeps to the lengths: every pointer is to a live buffer of that length.
     unsafe {
@@ -273,6 +296,15 @@ pub fn run(call: &Call, lent: &mut Lent, out: &mut [i64]) {
                 out.0,
                 out.1,
             ),
+            Entry::Cosines => mnemathor_cosines(matrix.0, matrix.1, rows.0, rows.1, out.0, out.1),
+            Entry::Turned => {
+                mnemathor_turned(rows.0, rows.1, target.0, target.1, turned.0, turned.1, out.0, out.1)
+            }
         }
     }
+}
+
+/// Bits lent as floats: the two have the same size and place in memory.
+fn floats(bits: &mut [Float]) -> (*mut f64, usize) {
+    (bits.as_mut_ptr().cast(), bits.len())
 }

@@ -3,10 +3,13 @@
 
 use crate::call::{Buffer, Call, Entry, Outcome, ENTRIES};
 use crate::damage::damage;
+use crate::float::Float;
 use crate::generate::*;
 use crate::random::Random;
 use crate::search::Effort;
 use crate::sky::{self, record};
+
+mod gimbal;
 
 /// A case whose search tries more stars than this is left out.
 const MOST_STARS_TRIED: u64 = 1_000_000;
@@ -43,6 +46,8 @@ pub fn calls() -> Vec<Call> {
             Entry::RankingByIndex => rankings_by_index(&random, &mut calls),
             Entry::ChainByIndex => chains_by_index(&random, &mut calls),
             Entry::Burst => bursts(&random, &mut calls),
+            Entry::Cosines => gimbal::matrices(&random, &mut calls),
+            Entry::Turned => gimbal::targets(&random, &mut calls),
         }
     }
     calls
@@ -78,15 +83,17 @@ fn line(case: &Case) -> String {
     let entry = case.call.entry;
     let mut numbers = vec![i64::from(entry.kind())];
     numbers.extend(&case.outcome.out[..entry.numbers_shown()]);
+    let after = &case.outcome.lent;
     if case.call.writes_ranking() {
         numbers.push(checksum(&case.call.room.values()));
-        numbers.push(checksum(&case.outcome.room));
+        numbers.push(checksum(&after.room));
     }
     if case.call.writes_bytes() {
         numbers.push(checksum(&case.call.bytes.values()));
-        numbers.push(checksum(&case.outcome.bytes));
+        numbers.push(checksum(&after.bytes));
     }
-    numbers.iter().map(i64::to_string).collect::<Vec<_>>().join(" ")
+    let floats = case.call.floats_written(after).iter().map(Float::to_string);
+    numbers.iter().map(i64::to_string).chain(floats).collect::<Vec<_>>().join(" ")
 }
 
 fn checksum<T: Copy + Into<i64>>(room: &[T]) -> i64 {

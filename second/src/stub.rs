@@ -263,3 +263,38 @@ unsafe extern "C" fn mnemathor_burst(
         )
     });
 }
+
+#[no_mangle]
+unsafe extern "C" fn mnemathor_cosines(
+    matrix: *const i64,
+    matrix_len: usize,
+    rows: *mut f64,
+    rows_len: usize,
+    out: *mut i64,
+    out_len: usize,
+) {
+    // Another length than nine: nothing is done.
+    let rows: Result<&mut [f64; 9], _> = from_raw_parts_mut(rows, rows_len).try_into();
+    if let (Ok(matrix), Ok(rows)) = (from_raw_parts(matrix, matrix_len).try_into(), rows) {
+        answer(out, out_len, || plain::cosines(matrix).map(|cosines| *rows = cosines));
+    }
+}
+
+#[no_mangle]
+unsafe extern "C" fn mnemathor_turned(
+    rows: *const f64,
+    rows_len: usize,
+    target: *const f64,
+    target_len: usize,
+    turned: *mut f64,
+    turned_len: usize,
+    out: *mut i64,
+    out_len: usize,
+) {
+    let (rows, target) = (from_raw_parts(rows, rows_len), from_raw_parts(target, target_len));
+    let turned: Result<&mut [f64; 3], _> = from_raw_parts_mut(turned, turned_len).try_into();
+    if let (Ok(rows), Ok(target), Ok(turned)) = (rows.try_into(), target.try_into(), turned) {
+        *turned = plain::turned(rows, target);
+        answer(out, out_len, || Ok(()));
+    }
+}

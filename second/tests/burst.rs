@@ -155,7 +155,7 @@ fn the_burst_is_the_single_calls_in_order() {
         if outcome.out[0] != 0 {
             continue;
         }
-        single_calls(&call, &outcome.room, &outcome.bytes, &mut given);
+        single_calls(&call, &outcome.lent.room, &outcome.lent.bytes, &mut given);
     }
     assert!(given[0] > 50 && given[4] > 20 && given[12] > 20 && given[13] > 20, "{given:?}");
 }

@@ -24,7 +24,7 @@ fn plain_equals_wide_where_much_agrees() {
             given_up += 1;
             continue;
         };
-        assert_eq!(call.run_plain(), wide, "{:?}", call.scalars());
+        assert!(call.run_plain() == wide, "{:?}", call.scalars());
         match wide.out[0] {
             0 => found += 1,
             13 => none += 1,

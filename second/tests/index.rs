@@ -151,7 +151,8 @@ fn the_chain_by_the_index_is_the_plain_chain() {
                 true => Call { entry: Entry::ChainByIndex, ..plain },
                 false => by_index(&random, plain),
             };
-        assert_eq!(call.run_wide(&mut Effort::unlimited()).unwrap(), expected);
+        let outcome = call.run_wide(&mut Effort::unlimited()).unwrap();
+        assert!(outcome.out == expected.out && outcome.lent.room == expected.lent.room);
     }
 }
 

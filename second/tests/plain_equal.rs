@@ -18,12 +18,12 @@ fn calls(seed: u64, count: usize) -> impl Iterator<Item = Call> {
 #[test]
 fn plain_equals_wide() {
     let mut accepted = [0; ENTRIES.len()];
-    let mut refused = [[0; 19]; ENTRIES.len()];
+    let mut refused = [[0; 24]; ENTRIES.len()];
     for call in calls(6, 1_000) {
         let Ok(wide) = call.run_wide(&mut Effort::up_to(200_000)) else {
             continue;
         };
-        assert_eq!(call.run_plain(), wide, "{:?} {:?}", call.entry, call.scalars());
+        assert!(call.run_plain() == wide, "{:?} {:?}", call.entry, call.scalars());
         match wide.out[0] {
             0 => accepted[call.entry.index()] += 1,
             number => refused[call.entry.index()][number as usize] += 1,

@@ -63,6 +63,10 @@ impl Reader<'_> {
         self.buffer(1, 12_288).into_iter().map(|n| n as u8).collect()
     }
 
+    fn floats(&mut self) -> Vec<u64> {
+        self.buffer(8, 9).into_iter().map(|n| n as u64).collect()
+    }
+
     fn scalars(&mut self, count: usize) -> Vec<u64> {
         (0..count).map(|_| self.number(8) as u64).collect()
     }
@@ -111,12 +115,21 @@ impl Reader<'_> {
                 assert_eq!(self.words(), lent.room);
                 assert_eq!(self.bytes(), lent.bytes);
             }
+            Entry::Cosines => {
+                assert_eq!(self.buffer(8, 9), lent.matrix);
+                assert_eq!(self.floats(), lent.rows);
+            }
+            Entry::Turned => {
+                assert_eq!(self.floats(), lent.rows);
+                assert_eq!(self.floats(), lent.target);
+                assert_eq!(self.floats(), lent.turned);
+            }
         }
     }
 }
 
 fn scalar_count(entry: Entry) -> usize {
-    [5, 3, 5, 0, 1, 2, 0, 8, 5, 1, 2, 9, 8][entry.index()]
+    [5, 3, 5, 0, 1, 2, 0, 8, 5, 1, 2, 9, 8, 0, 0][entry.index()]
 }
 
 #[test]
@@ -124,7 +137,7 @@ fn recorded_cases_are_sound() {
     let cases = cases();
     let bytes = input(cases);
     let text = output(cases);
-    assert!(bytes.len() < 4_000_000, "{} bytes of input", bytes.len());
+    assert!(bytes.len() < 6_000_000, "{} bytes of input", bytes.len());
     assert!(text.len() < 1_500_000, "{} bytes of output", text.len());
 
     let mut reader = Reader { rest: &bytes };
@@ -134,7 +147,7 @@ fn recorded_cases_are_sound() {
         assert_eq!(reader.scalars(scalar_count(call.entry)), call.scalars());
         reader.check_buffers(call.entry, &call.lend());
         if call.entry.in_plain() {
-            assert_eq!(call.run_plain(), case.outcome, "{:?} {:?}", call.entry, call.scalars());
+            assert!(call.run_plain() == case.outcome, "{:?} {:?}", call.entry, call.scalars());
         }
     }
     assert_eq!(reader.rest, [0]);
@@ -172,7 +185,7 @@ fn calls_by_an_index_give_what_plain_calls_give() {
         // Where the index is right, or is not come to, nothing is different.
         if case.outcome.out[0] != 17 {
             let call = Call { entry: plain, ..case.call.clone() };
-            assert_eq!(call.run_wide(&mut Effort::unlimited()).unwrap(), case.outcome);
+            assert!(call.run_wide(&mut Effort::unlimited()).unwrap() == case.outcome);
             compared += 1;
         }
     }
@@ -184,7 +197,7 @@ fn bursts_have_every_refusal_of_a_frame() {
     let mut given = [0; 16];
     for case in cases().iter().filter(|case| case.call.entry == Entry::Burst) {
         let records = case.outcome.out[2] as usize;
-        for record in case.outcome.bytes[..80 * records].chunks(80) {
+        for record in case.outcome.lent.bytes[..80 * records].chunks(80) {
             given[usize::from(record[3])] += 1;
         }
     }

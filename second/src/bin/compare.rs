@@ -23,7 +23,7 @@ const DIFFERENCES_SHOWN: u64 = 5;
 /// No call of the library may take more stack than this.
 const STACK: usize = 64 * 1024;
 /// Calls of each entry point in a round: more of the quick ones.
-const CALLS_A_ROUND: [usize; ENTRIES.len()] = [4, 2, 8, 4, 2, 4, 8, 1, 4, 2, 2, 1, 1];
+const CALLS_A_ROUND: [usize; ENTRIES.len()] = [4, 2, 8, 4, 2, 4, 8, 1, 4, 2, 2, 1, 1, 8, 16];
 
 #[derive(Default, Clone, Copy)]
 struct Count {
@@ -106,13 +106,12 @@ impl Run {
         let Ok(expected) = call.run_wide(&mut Effort::up_to(MOST_STARS_TRIED)) else {
             return;
         };
-        let mut expected_memory = call.lend();
-        (expected_memory.room, expected_memory.bytes) = (expected.room, expected.bytes);
         let mut lent = call.lend();
         let mut out = [UNTOUCHED; 64];
         linked::run(call, &mut lent, &mut out);
+        lent.settle_floats();
 
-        let difference = first_difference(&expected.out, &expected_memory, &out, &lent);
+        let difference = first_difference(&expected.out, &expected.lent, &out, &lent);
         let count = &mut self.entries[call.entry.index()];
         count.compared += 1;
         match expected.out[0] {
@@ -125,24 +124,20 @@ impl Run {
         }
     }
 
-    /// Room for fewer than 64 numbers, or an attitude of other than twelve: no number is handed over. The
-    /// rooms take what the call writes there all the same.
+    /// Room for fewer than 64 numbers: none is handed over, but the rooms take what the call writes there all the
+    /// same. Or a buffer of another length than the call takes: nothing is done.
     fn compare_nothing_handed_over(&mut self, random: &Random, mut call: Call) {
-        let mut room = 64;
-        if call.entry == Entry::Attitude && random.chance(50) {
-            call.vectors = call.vectors.resized(random.pick(&[0, 1, 3, 11, 13, 24]));
-        } else {
-            room = random.pick(&[0, 1, 2, 47, 63]);
-        }
-        let (mut expected, mut lent) = (call.lend(), call.lend());
-        if call.writes_ranking() || call.writes_bytes() {
-            let Ok(outcome) = call.run_wide(&mut Effort::up_to(MOST_STARS_TRIED)) else {
-                return;
-            };
-            (expected.room, expected.bytes) = (outcome.room, outcome.bytes);
-        }
+        let (room, expected) = match random.chance(50) && lend_other_length(random, &mut call) {
+            true => (64, call.lend()),
+            false => match call.run_wide(&mut Effort::up_to(MOST_STARS_TRIED)) {
+                Ok(outcome) => (random.pick(&[0, 1, 2, 47, 63]), outcome.lent),
+                Err(_) => return,
+            },
+        };
+        let mut lent = call.lend();
         let mut out = vec![UNTOUCHED; room];
         linked::run(&call, &mut lent, &mut out);
+        lent.settle_floats();
         self.nothing.compared += 1;
         if let Some(difference) = first_difference(&vec![UNTOUCHED; room], &expected, &out, &lent) {
             self.nothing.differences += 1;
@@ -164,6 +159,9 @@ impl Run {
         show_buffer("ranking", &lent.ranking);
         show_buffer("vectors", &lent.vectors);
         show_buffer("index", &lent.index);
+        show_buffer("matrix", &lent.matrix);
+        show_buffer("rows", &lent.rows);
+        show_buffer("target", &lent.target);
         if call.writes_ranking() {
             println!("  room of {} words", lent.room.len());
         }
@@ -192,6 +190,22 @@ impl Run {
     }
 }
 
+/// Lends a call that takes just so many numbers another number of them; false where it is no such call.
+fn lend_other_length(random: &Random, call: &mut Call) -> bool {
+    match (call.entry, random.below(3)) {
+        (Entry::Attitude, _) => {
+            call.vectors = call.vectors.resized(random.pick(&[0, 1, 3, 11, 13, 24]));
+        }
+        (Entry::Cosines, 0) => call.rows = call.rows.resized(random.pick(&[0, 1, 3, 8])),
+        (Entry::Cosines, _) => call.matrix = call.matrix.resized(random.pick(&[0, 1, 8, 10, 12])),
+        (Entry::Turned, 0) => call.rows = call.rows.resized(random.pick(&[0, 3, 8, 10])),
+        (Entry::Turned, 1) => call.target = call.target.resized(random.pick(&[0, 1, 2, 4])),
+        (Entry::Turned, _) => call.turned = call.turned.resized(random.pick(&[0, 1, 2])),
+        _ => return false,
+    }
+    true
+}
+
 /// A buffer the call is lent; of a long one only the length.
 fn show_buffer<T: std::fmt::Debug>(name: &str, values: &[T]) {
     match values.len() {
@@ -214,6 +228,10 @@ fn first_difference(expected: &[i64], expected_memory: &Lent, out: &[i64], lent:
         .or_else(|| buffer_difference("vector number", &expected_memory.vectors, &lent.vectors))
         .or_else(|| buffer_difference("index byte", &expected_memory.index, &lent.index))
         .or_else(|| buffer_difference("byte", &expected_memory.bytes, &lent.bytes))
+        .or_else(|| buffer_difference("matrix entry", &expected_memory.matrix, &lent.matrix))
+        .or_else(|| buffer_difference("row float", &expected_memory.rows, &lent.rows))
+        .or_else(|| buffer_difference("target float", &expected_memory.target, &lent.target))
+        .or_else(|| buffer_difference("turned float", &expected_memory.turned, &lent.turned))
 }
 
 fn buffer_difference<T: PartialEq + std::fmt::Display>(

@@ -6,6 +6,7 @@
 mod bursts;
 mod clock;
 mod frames;
+mod gimbals;
 mod indexes;
 mod rankings;
 mod scan;
@@ -34,6 +35,7 @@ fn rows(part: &str) -> bool {
     let single = [frames::inputs(&random), rankings::inputs(&random), hard::searches(&random)].concat();
     let mut inputs: Vec<_> = single.into_iter().map(|(name, call)| (name, vec![call])).collect();
     inputs.extend(bursts::inputs(&random));
+    inputs.extend(gimbals::inputs(&random));
     inputs.retain(|(name, _)| name.contains(part));
     table::print(&inputs)
 }

@@ -1,0 +1,27 @@
+//! Direction cosines and turned targets, many at a time: one alone is too short to be timed.
+
+use second::call::Call;
+use second::float::Float;
+use second::generate::{attitude_matrix, cosines_of, turned_of};
+use second::gimbal::cosines;
+use second::random::Random;
+
+const MANY: usize = 1_000;
+
+pub fn inputs(random: &Random) -> Vec<(&'static str, Vec<Call>)> {
+    vec![
+        ("cosines, 1000 matrices", many(|| cosines_of(&attitude_matrix(random)))),
+        ("row by target, 1000 targets", many(|| turned(random))),
+    ]
+}
+
+fn many(call: impl Fn() -> Call) -> Vec<Call> {
+    (0..MANY).map(|_| call()).collect()
+}
+
+/// The rows of an attitude and a direction of about unit length.
+fn turned(random: &Random) -> Call {
+    let rows = |random: &Random| cosines(&attitude_matrix(random)).expect("no matrix reaches the limit");
+    let target: [Float; 3] = std::array::from_fn(|k| rows(random)[k]);
+    turned_of(&rows(random), &target)
+}
