@@ -79,7 +79,7 @@ record-of catalogue s (f ∷ fs) room rest (suc k) h =
 signed : {z : ℤ} → Within 6000000000 z → SFits w64 z
 signed p = within-fits w64 p (lit< tt)
 
-matrix-signed : (m : Matrix) → MatrixWithin m → AllSigned (entriesOf m)
+matrix-signed : (m : Matrix) → MatrixWithin 6000000000 m → AllSigned (entriesOf m)
 unfolding AllSigned
 matrix-signed m h = (
   signed (h .row0 .x),
@@ -102,7 +102,7 @@ matrix-signed m h = (
 )
 
 -- so that a record holds each answer of the chain
-holds-by : (o : Outcome) (m : Matrix) → Low o → MatrixWithin m → Holds (recordOf o m)
+holds-by : (o : Outcome) (m : Matrix) → Low o → MatrixWithin 6000000000 m → Holds (recordOf o m)
 unfolding AllSigned
 holds-by outcome.Accepted m l h = record { number = omega arith; place = omega arith; entries = matrix-signed m h }
 holds-by (outcome.Refused r) m l h =

@@ -132,26 +132,26 @@ tracked-low c = by (lowest (refusalsOf c)) refl
 zeros-within : Within3 6000000000 zeros
 zeros-within = record { x = record { within = zero-le }; y = record { within = zero-le }; z = record { within = zero-le } }
 
-refused-within : (r : Refusal) → MatrixWithin (refusedWith r .matrix)
+refused-within : (r : Refusal) → MatrixWithin 6000000000 (refusedWith r .matrix)
 refused-within r = record { row0 = zeros-within; row1 = zeros-within; row2 = zeros-within }
 
-oriented-within : (report : Report) (words : List ℕ) (a : Attitude) → ((m : Matrix) → a ≡ attitude.Found m → MatrixWithin m) → MatrixWithin (oriented report words a .matrix)
+oriented-within : (report : Report) (words : List ℕ) (a : Attitude) → ((m : Matrix) → a ≡ attitude.Found m → MatrixWithin 6000000000 m) → MatrixWithin 6000000000 (oriented report words a .matrix)
 oriented-within report words (attitude.Refused r) h = refused-within r
 oriented-within report words (attitude.Found m) h = h m refl
 
-located-within : (report : Report) (bytes : List ℕ) (s : Settings) → MatrixWithin (locatedOf report bytes s .matrix)
+located-within : (report : Report) (bytes : List ℕ) (s : Settings) → MatrixWithin 6000000000 (locatedOf report bytes s .matrix)
 unfolding locatedOf settledOf orientationOf
 located-within report bytes s = by (ourIdentification report bytes s .outcome)
   where
-    by : (o : Outcome) → MatrixWithin (answered refusedWith (oriented report (ourIdentification report bytes s .stars) (orientationOf (sightsOf report bytes s) (starsOf bytes) (ourIdentification report bytes s .stars))) o .matrix)
+    by : (o : Outcome) → MatrixWithin 6000000000 (answered refusedWith (oriented report (ourIdentification report bytes s .stars) (orientationOf (sightsOf report bytes s) (starsOf bytes) (ourIdentification report bytes s .stars))) o .matrix)
     by (Refused r) = refused-within r
     by Accepted = oriented-within report _ _ (entries-within _ _ _ _)
 
 -- every entry of an answer's matrix is within 6 * 10^9, also where it is refused
-pub tracked-within : (c : Call) → MatrixWithin (trackedOf c .matrix)
+pub tracked-within : (c : Call) → MatrixWithin 6000000000 (trackedOf c .matrix)
 unfolding trackedOf
 tracked-within c = by (lowest (refusalsOf c))
   where
-    by : (o : Outcome) → MatrixWithin (answered refusedWith (locatedOf (listed c .report) (c .catalogue) (c .settings)) o .matrix)
+    by : (o : Outcome) → MatrixWithin 6000000000 (answered refusedWith (locatedOf (listed c .report) (c .catalogue) (c .settings)) o .matrix)
     by (Refused r) = refused-within r
     by Accepted = located-within (listed c .report) (c .catalogue) (c .settings)
