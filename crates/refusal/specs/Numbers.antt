@@ -56,6 +56,9 @@ index = 17
 abbrev pub recordsRoom : ℕ
 recordsRoom = 18
 
+abbrev pub lens : ℕ
+lens = 19
+
 abbrev pub entry : ℕ
 entry = 23
 
@@ -64,4 +67,4 @@ abbrev pub inOrder : List ℕ
 inOrder =
     size ∷ samples ∷ threshold ∷ sample ∷ settings ∷ catalogue ∷ recordRule ∷ directions ∷
     demand ∷ room ∷ ranking ∷ few ∷ noFit ∷ close ∷ pixel ∷ indexRoom ∷
-    index ∷ recordsRoom ∷ entry ∷ []
+    index ∷ recordsRoom ∷ lens ∷ entry ∷ []

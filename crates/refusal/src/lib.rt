@@ -13,7 +13,7 @@ pub const SAMPLES: u32 = 2;
 pub const THRESHOLD: u32 = 3;
 // A sample is above 4,095; the place is the first such sample's.
 pub const SAMPLE: u32 = 4;
-// The centre, the focal length or a position handed in is out of range.
+// The centre or a position handed in is out of range.
 pub const SETTINGS: u32 = 5;
 // The catalogue's length is no multiple of a record's, or not that of 1 to 512 records.
 pub const CATALOGUE: u32 = 6;
@@ -41,11 +41,13 @@ pub const INDEX_ROOM: u32 = 16;
 pub const INDEX: u32 = 17;
 // The room lent for a burst's records is shorter than the records.
 pub const RECORDS_ROOM: u32 = 18;
+// A number that the lens plate states is not above zero, or the focal length that they make is out of range.
+pub const LENS: u32 = 19;
 // A matrix entry handed in is beyond 8 * 10^9.
 pub const ENTRY: u32 = 23;
 
 // All of them in the table's order, each the number that specs/Numbers has under its name.
-pub fn numbers_in_order() -> [u32; 19]
+pub fn numbers_in_order() -> [u32; 20]
     ensures { λ r. ⌜ r ≡ inOrder ⌝ }
 {
     [
@@ -67,6 +69,7 @@ pub fn numbers_in_order() -> [u32; 19]
         INDEX_ROOM,
         INDEX,
         RECORDS_ROOM,
+        LENS,
         ENTRY,
     ]
 }
