@@ -10,7 +10,7 @@ const UNIT: i64 = 1000000000;
 
 fn direction(letter: &[u8], cx: i64, x: i64) {
     say::text(letter);
-    let answer = direction::direction_of(cx, 0, 16384, x, 0);
+    let answer = camera::direction_of(cx, 0, lens::of_settings(16384), x, 0);
     match answer {
         Direction::Refused(refusal) => say::refused(refusal),
         Direction::Found(v) => say::vector(v),

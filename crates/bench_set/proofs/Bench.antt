@@ -3,7 +3,7 @@
 use mathlib.Core.Bool.{Bool, true, false, _&&_, _||_}
 use mathlib.Core.List.{List}
 use mathlib.Core.Path.{_≡_, refl, ap, _∙_}
-use Prim.Native.Nat.{ℕ, _+_, _*_, _<_}
+use Prim.Native.Nat.{ℕ, _+_, _*_, _≤_, _<_}
 use borrow.Author.Tests.{eqb-true, lt-leb}
 use lib.Dec.{lit≤, lit<, leb, eqb}
 use lib.IntN.{ℤ, pos, _-ℤ_}
@@ -27,11 +27,13 @@ use Rattle.frame.specs.Input.{firstOver}
 use Rattle.frame.specs.Calls.{judgementOf}
 use Rattle.frame.specs.CallsLaws.{judge-accepted}
 use Rattle.direction.specs.List.{allWithin, listOk}
-use Rattle.direction.specs.Settings.{between, settingsOk, positionOk}
+use Rattle.direction.specs.Settings.{between, positionOk}
 use Rattle.direction.specs.Position.{square, scaledOf, towardOf}
 use Rattle.direction.specs.PositionLaws.{norm-by}
-use Rattle.direction.specs.Direction.{directionOf}
 use Rattle.direction.specs.DirectionLaws.{in-range}
+use Rattle.lens.specs.Stated.{settingsLens}
+use Rattle.camera.specs.Camera.{directionOf}
+use Rattle.camera.specs.Laws.{settings-direction}
 use Rattle.words.specs.Number.{numberAt}
 use Rattle.catalogue.specs.Format.{signedOf, identityOf, componentOf}
 use Rattle.catalogue.specs.Rule.{directionOk, identityRises, recordOk}
@@ -89,15 +91,18 @@ rest-beaten r c p q other =
 
 -- ---- G and H: N by its square
 
-module _ (cx cy f x y : ℤ) where
+module _ (cx cy : ℤ) (f : ℕ) (x y : ℤ) where
   abbrev by-norm : ℕ → Vec3
-  by-norm n = vec (scaledOf (x -ℤ cx) n) (scaledOf (y -ℤ cy) n) (scaledOf f n)
+  by-norm n = vec (scaledOf (x -ℤ cx) n) (scaledOf (y -ℤ cy) n) (scaledOf (pos f) n)
 
   direction-by :
-      {n : ℕ} → settingsOk cx cy f ≡ true → positionOk x y ≡ true →
-      Root (65536 * (square (x -ℤ cx) + square (y -ℤ cy) + square f)) n → directionOf cx cy f x y ≡ found (by-norm n)
+      {n : ℕ} → 16384 ≤ f → f ≤ 4194304 → positionOk cx cy ≡ true → positionOk x y ≡ true →
+      Root (65536 * (square (x -ℤ cx) + square (y -ℤ cy) + square (pos f))) n → directionOf cx cy (settingsLens f) x y ≡ found (by-norm n)
   unfolding towardOf
-  direction-by s p h = in-range cx cy f x y s p ∙ ap (λ (n : ℕ). found (by-norm n)) (norm-by (x -ℤ cx) (y -ℤ cy) f h)
+  direction-by a b s p h =
+      settings-direction cx cy f x y a b
+      ∙ in-range cx cy (pos f) x y s p
+      ∙ ap (λ (n : ℕ). found (by-norm n)) (norm-by (x -ℤ cx) (y -ℤ cy) (pos f) h)
 
 n-G : Root (65536 * (square (pos 0) + square (pos 0) + square (pos 16384))) 4194304
 n-G = record { below = lit≤ tt; above = lit< tt }
@@ -122,10 +127,10 @@ verdicts-hold below = (refl, (refl, (refl, (refl, (refl, (refl, (refl, (rest-bea
 
 -- G and H
 directions-hold : AllHold (drop 10 table) → AllHold (drop 8 table)
-unfolding table settingsOk positionOk between
+unfolding table positionOk between
 directions-hold below = (
-  direction-by (pos 12288) (pos 0) (pos 16384) (pos 12288) (pos 0) refl refl n-G,
-  (direction-by (pos 12288) (pos 0) (pos 16384) (pos 0) (pos 0) refl refl n-H, below),
+  direction-by (pos 12288) (pos 0) 16384 (pos 12288) (pos 0) (lit≤ tt) (lit≤ tt) refl refl n-G,
+  (direction-by (pos 12288) (pos 0) 16384 (pos 0) (pos 0) (lit≤ tt) (lit≤ tt) refl refl n-H, below),
 )
 
 -- I, J and K, and the first two as direction cosines

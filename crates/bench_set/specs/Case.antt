@@ -10,7 +10,8 @@ use Rattle.frame.specs.declared.Judgement.{Judgement}
 use Rattle.frame.specs.declared.Judgement.the-variants.{Judged}
 use Rattle.frame.specs.Calls.{judgementOf}
 use Rattle.direction.specs.declared.Direction.{Direction}
-use Rattle.direction.specs.Direction.{directionOf}
+use Rattle.lens.specs.declared.Lens.{Lens}
+use Rattle.camera.specs.Camera.{directionOf}
 use Rattle.attitude.specs.declared.Attitude.{Attitude}
 use Rattle.attitude.specs.declared.Attitude.the-variants as turned
 use Rattle.attitude.specs.Attitude.{attitudeOf}
@@ -26,8 +27,8 @@ pub data Case : Type 0 where
   pixel : List ℕ → ℕ → ℕ → ℕ → Kind → Case
   -- the same of every pixel but that one
   others : List ℕ → ℕ → ℕ → ℕ → Kind → Case
-  -- cx, cy, F, x and y
-  direction : ℤ → ℤ → ℤ → ℤ → ℤ → Direction → Case
+  -- cx, cy, the lens, x and y
+  direction : ℤ → ℤ → Lens → ℤ → ℤ → Direction → Case
   -- two vectors of the camera, and their stars
   attitude : Vec3 → Vec3 → Vec3 → Vec3 → Attitude → Case
   -- the same four vectors, and what the gimbal computer is sent of their attitude
@@ -48,7 +49,7 @@ abbrev pub Holds : Case → Type 0
 Holds (pixel samples threshold row column kind) = judgementOf samples side side threshold row column ≡ judgedAs row column kind
 Holds (others samples threshold row column kind) =
     (r c : ℕ) → r < side → c < side → ((r ≡ row) × (c ≡ column) → ⊥) → judgementOf samples side side threshold r c ≡ judgedAs r c kind
-Holds (direction cx cy f x y answer) = directionOf cx cy f x y ≡ answer
+Holds (direction cx cy lens x y answer) = directionOf cx cy lens x y ≡ answer
 Holds (attitude v1 v2 w1 w2 answer) = attitudeOf v1 v2 w1 w2 ≡ answer
 Holds (cosines v1 v2 w1 w2 answer) = sentOf (attitudeOf v1 v2 w1 w2) ≡ answer
 Holds (search directions catalogue needed tolerance ranking answer) =

@@ -10,6 +10,7 @@ use Rattle.verdict.specs.declared.Kind.{Kind}
 use Rattle.verdict.specs.declared.Kind.the-variants.{Beaten, Edge, Lone, Measured}
 use Rattle.direction.specs.declared.Direction.{Direction}
 use Rattle.direction.specs.declared.Direction.the-variants as toward
+use Rattle.lens.specs.Stated.{settingsLens}
 use Rattle.attitude.specs.declared.Attitude.{Attitude}
 use Rattle.attitude.specs.declared.Attitude.the-variants as turned
 use Rattle.gimbal.specs.declared.Triple.{Triple}
@@ -149,10 +150,10 @@ table =
     -- F
     ∷ pixel (evenly 4095) 4095 0 0 Edge
     ∷ others (evenly 4095) 4095 0 0 Beaten
-    -- G: X = x - cx = 0
-    ∷ direction (pos 12288) (pos 0) (pos 16384) (pos 12288) (pos 0) (found (vec (pos 0) (pos 0) (pos 1000000000)))
+    -- G: F is 16,384, X = x - cx = 0
+    ∷ direction (pos 12288) (pos 0) (settingsLens 16384) (pos 12288) (pos 0) (found (vec (pos 0) (pos 0) (pos 1000000000)))
     -- H: X = -12,288
-    ∷ direction (pos 12288) (pos 0) (pos 16384) (pos 0) (pos 0) (found (vec (minus 600000000) (pos 0) (pos 800000000)))
+    ∷ direction (pos 12288) (pos 0) (settingsLens 16384) (pos 0) (pos 0) (found (vec (minus 600000000) (pos 0) (pos 800000000)))
     -- I
     ∷ attitude
     (vec (pos 0) (pos 0) (pos 1000000000)) (vec (pos 1000000000) (pos 0) (pos 0))

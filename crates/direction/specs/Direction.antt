@@ -1,4 +1,4 @@
--- The direction of a position, or refusal 5. Assumes nothing.
+-- The direction of a position for a whole focal length, or refusal 5. Assumes nothing.
 use mathlib.Core.Bool.{cond, not, _&&_}
 use mathlib.Core.List.{List, [], _∷_}
 use lib.IntN.{ℤ, _-ℤ_}
@@ -8,15 +8,16 @@ use Rattle.refusal.specs.Answer.{Answer, refusedWith, acceptedWith}
 use Rattle.vectors.specs.declared.Vec3.{Vec3}
 use Rattle.direction.specs.declared.Direction.{Direction}
 use Rattle.direction.specs.declared.Direction.the-variants.{Refused, Found}
-use Rattle.direction.specs.Settings.{settingsOk, positionOk}
+use Rattle.direction.specs.Settings.{positionOk}
 use Rattle.direction.specs.Position.{towardOf}
 
-unfoldable pub refusalsOf : ℤ → ℤ → ℤ → ℤ → ℤ → List Row
-refusalsOf cx cy f x y = row (not (settingsOk cx cy f && positionOk x y)) settings ∷ []
+-- the centre or the position is out of range
+unfoldable pub refusalsOf : ℤ → ℤ → ℤ → ℤ → List Row
+refusalsOf cx cy x y = row (not (positionOk cx cy && positionOk x y)) settings ∷ []
 
 -- X and Y are the position as seen from the centre
 unfoldable pub directionOf : ℤ → ℤ → ℤ → ℤ → ℤ → Direction
-directionOf cx cy f x y = answered Refused (Found (towardOf (x -ℤ cx) (y -ℤ cy) f)) (lowest (refusalsOf cx cy f x y))
+directionOf cx cy f x y = answered Refused (Found (towardOf (x -ℤ cx) (y -ℤ cy) f)) (lowest (refusalsOf cx cy x y))
 
 abbrev pub outOfRange : Direction
 outOfRange = Refused (record { number = settings; place = 0 })
@@ -30,8 +31,8 @@ abbrev pub answerOf : Direction → Answer
 answerOf (Refused r) = refusedWith (r .number) (r .place)
 answerOf (Found v) = acceptedWith (numbersOf v)
 
--- the answer that settings and a position must have
+-- the answer that a centre, a focal length and a position must have
 abbrev pub answerFor : ℤ → ℤ → ℤ → ℤ → ℤ → Answer
 answerFor cx cy f x y =
-    cond (not (settingsOk cx cy f && positionOk x y)) (refusedWith 5 0)
+    cond (not (positionOk cx cy && positionOk x y)) (refusedWith 5 0)
     (acceptedWith (numbersOf (towardOf (x -ℤ cx) (y -ℤ cy) f)))

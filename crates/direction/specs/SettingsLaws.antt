@@ -1,7 +1,7 @@
--- What the ranges of the settings and of a position say in plain terms, and that the tests say exactly that. Assumes nothing.
-use mathlib.Core.Bool.{Bool, true, false, _&&_, and-eq-true-iff}
+-- What the range of a position says in plain terms, and that the test says exactly that. Assumes nothing.
+use mathlib.Core.Bool.{Bool, true, _&&_, and-eq-true-iff}
 use mathlib.Core.Path.{_≡_, refl, sym, subst}
-use Prim.Native.Nat.{ℕ, _≤_, _<_}
+use Prim.Native.Nat.{ℕ, _<_}
 use native.Mathlib.Omega.{arith}
 use borrow.Author.Tests.{leb-true, le-leb}
 use lib.Dec.{leb}
@@ -10,19 +10,7 @@ use lib.Signed.{_<ℤ_}
 use Rattle.counting.specs.Contradiction.{contradiction}
 use Rattle.numbers.specs.Abs.{pos-positive}
 use Rattle.numbers.specs.Within.{Within}
-use Rattle.direction.specs.Settings.{between, placeOk, focalOk, settingsOk, positionOk}
-
--- a whole number from low to high
-pub record Between (low high : ℕ) (z : ℤ) : Type 0 where
-  pub at : ℕ
-  pub is : z ≡ pos at
-  pub above : low ≤ at
-  pub below : at ≤ high
-
-pub record Settings (cx cy f : ℤ) : Type 0 where
-  pub across : Between 0 261888 cx
-  pub down : Between 0 261888 cy
-  pub focal : Between 16384 4194304 f
+use Rattle.direction.specs.Settings.{between, placeOk, positionOk, Between}
 
 pub record Position (x y : ℤ) : Type 0 where
   pub across : Between 0 261888 x
@@ -48,18 +36,6 @@ module _ (low high : ℕ) where
 
   pub between-positive : {z : ℤ} → 0 < low → Between low high z → pos 0 <ℤ z
   between-positive {z} l h = subst (λ (y : ℤ). pos 0 <ℤ y) (sym (h .is)) (pos-positive (omega (arith, h .above)))
-
-module _ (cx cy f : ℤ) where
-  pub ok-settings : settingsOk cx cy f ≡ true → Settings cx cy f
-  unfolding settingsOk
-  ok-settings e =
-      let p = both (placeOk cx && placeOk cy) (focalOk f) e in
-      let q = both (placeOk cx) (placeOk cy) (p .0) in
-      record { across = ok-between 0 261888 cx (q .0); down = ok-between 0 261888 cy (q .1); focal = ok-between 16384 4194304 f (p .1) }
-
-  pub settings-ok : Settings cx cy f → settingsOk cx cy f ≡ true
-  unfolding settingsOk
-  settings-ok h = rw (between-ok 0 261888 cx (h .across), between-ok 0 261888 cy (h .down)) (between-ok 16384 4194304 f (h .focal))
 
 module _ (x y : ℤ) where
   pub ok-position : positionOk x y ≡ true → Position x y

@@ -1,6 +1,6 @@
-// The ranges of the settings and of a position.
+// The range of a position, and of the centre.
 ghost use mathlib.Core.Path.{_≡_};
-ghost use Rattle.direction.specs.Settings.{placeOk, focalOk, positionOk};
+ghost use Rattle.direction.specs.Settings.{placeOk, positionOk};
 
 // Whether v lies from `low` to `high`.
 fn between(low: i64, high: i64, v: i64) -> bool
@@ -13,21 +13,14 @@ fn between(low: i64, high: i64, v: i64) -> bool
 }
 
 // Whether v, in 1/256 pixel, lies on the largest frame.
-pub(crate) fn place_ok(v: i64) -> bool
+fn place_ok(v: i64) -> bool
     ensures { λ r. ⌜ r ≡ placeOk v ⌝ }
 {
     between(0, 261888, v)
 }
 
-// Whether a focal length, in 1/256 pixel, is in range.
-pub(crate) fn focal_ok(focal: i64) -> bool
-    ensures { λ r. ⌜ r ≡ focalOk focal ⌝ }
-{
-    between(16384, 4194304, focal)
-}
-
-// Whether a position lies on the largest frame.
-pub(crate) fn position_ok(x: i64, y: i64) -> bool
+// Whether a position, that of the centre too, lies on the largest frame.
+pub fn position_ok(x: i64, y: i64) -> bool
     ensures { λ r. ⌜ r ≡ positionOk x y ⌝ }
 {
     if place_ok(x) {

@@ -4,6 +4,7 @@ use handover::of_count;
 use handover::of_refusal;
 use tracker::Settings;
 ghost use mathlib.Core.Path.{_≡_};
+ghost use Rattle.lens.specs.Stated.{statedLens};
 ghost use Rattle.burst.specs.Burst.{call, burstOf, recordsAfter, roomAfter};
 ghost use Rattle.handover.specs.Room.{handedOver};
 ghost use Rattle.exports_chain.specs.Chain.{settingsOf};
@@ -27,7 +28,9 @@ pub extern "C" fn mnemathor_burst(
     threshold: usize,
     cx: i64,
     cy: i64,
-    f: i64,
+    kind: u32,
+    first: f64,
+    second: f64,
     catalogue: &[u8],
     needed: usize,
     tolerance: u64,
@@ -35,10 +38,11 @@ pub extern "C" fn mnemathor_burst(
     records: &mut [u8],
     out: &mut [i64],
 )
-    ensures { λ _. ⌜ now (room .exit) ≡ roomAfter (call (now (samples .entry)) (now (catalogue .entry)) (settingsOf width height threshold cx cy f needed tolerance) (now (room .entry)) (now (records .entry))) ⌝ }
-    ensures { λ _. ⌜ now (records .exit) ≡ recordsAfter (call (now (samples .entry)) (now (catalogue .entry)) (settingsOf width height threshold cx cy f needed tolerance) (now (room .entry)) (now (records .entry))) ⌝ }
-    ensures { λ _. ⌜ now (out .exit) ≡ handedOver (burstNumbers (burstOf (call (now (samples .entry)) (now (catalogue .entry)) (settingsOf width height threshold cx cy f needed tolerance) (now (room .entry)) (now (records .entry))))) (now (out .entry)) ⌝ }
+    ensures { λ _. ⌜ now (room .exit) ≡ roomAfter (call (now (samples .entry)) (now (catalogue .entry)) (settingsOf width height threshold cx cy (statedLens kind first second) needed tolerance) (now (room .entry)) (now (records .entry))) ⌝ }
+    ensures { λ _. ⌜ now (records .exit) ≡ recordsAfter (call (now (samples .entry)) (now (catalogue .entry)) (settingsOf width height threshold cx cy (statedLens kind first second) needed tolerance) (now (room .entry)) (now (records .entry))) ⌝ }
+    ensures { λ _. ⌜ now (out .exit) ≡ handedOver (burstNumbers (burstOf (call (now (samples .entry)) (now (catalogue .entry)) (settingsOf width height threshold cx cy (statedLens kind first second) needed tolerance) (now (room .entry)) (now (records .entry))))) (now (out .entry)) ⌝ }
 {
+    let lens = lens::stated(kind, first, second);
     let settings = Settings {
         width,
         height,
@@ -46,7 +50,7 @@ pub extern "C" fn mnemathor_burst(
         needed,
         cx,
         cy,
-        focal: f,
+        lens,
         tolerance,
     };
     let answer = burst::track(samples, catalogue, settings, room, records);

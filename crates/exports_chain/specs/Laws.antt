@@ -5,8 +5,9 @@ use lib.IntN.{ℤ}
 use mir.Syntax.{w64}
 use mir.Val.{SFits, toZ, ofZ}
 use Rattle.numbers.specs.Num.{param, back}
+use Rattle.lens.specs.declared.Lens.{Lens}
 use Rattle.exports_chain.specs.Chain.{settingsOf}
 
-pub settled : (width height threshold needed tolerance : ℕ) {cx cy f : ℤ} → SFits w64 cx → SFits w64 cy → SFits w64 f
-    → settingsOf width height threshold (toZ w64 (ofZ w64 cx)) (toZ w64 (ofZ w64 cy)) (toZ w64 (ofZ w64 f)) needed tolerance ≡ settingsOf width height threshold cx cy f needed tolerance
-settled width height threshold needed tolerance p q r = λ i. settingsOf width height threshold (back (param p) i) (back (param q) i) (back (param r) i) needed tolerance
+pub settled : (width height threshold needed tolerance : ℕ) {cx cy : ℤ} {given lens : Lens} → SFits w64 cx → SFits w64 cy → given ≡ lens
+    → settingsOf width height threshold (toZ w64 (ofZ w64 cx)) (toZ w64 (ofZ w64 cy)) given needed tolerance ≡ settingsOf width height threshold cx cy lens needed tolerance
+settled width height threshold needed tolerance p q e = λ i. settingsOf width height threshold (back (param p) i) (back (param q) i) (e i) needed tolerance

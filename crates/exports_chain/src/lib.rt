@@ -6,6 +6,7 @@ use handover::put_names;
 use tracker::Settings;
 use tracker::Tracked;
 ghost use mathlib.Core.Path.{_≡_};
+ghost use Rattle.lens.specs.Stated.{statedLens};
 ghost use Rattle.catalogue.specs.Format.{recordsIn};
 ghost use Rattle.tracker.specs.Chain.{trackedOf, roomAfter, call};
 ghost use Rattle.handover.specs.Room.{handedOver};
@@ -33,16 +34,19 @@ pub extern "C" fn mnemathor_chain(
     threshold: usize,
     cx: i64,
     cy: i64,
-    f: i64,
+    kind: u32,
+    first: f64,
+    second: f64,
     catalogue: &[u8],
     needed: usize,
     tolerance: u64,
     room: &mut [u16],
     out: &mut [i64],
 )
-    ensures { λ _. ⌜ now (room .exit) ≡ roomAfter (call (now (samples .entry)) (now (catalogue .entry)) (settingsOf width height threshold cx cy f needed tolerance) (now (room .entry))) ⌝ }
-    ensures { λ _. ⌜ now (out .exit) ≡ handedOver (chainNumbers (recordsIn (now (catalogue .entry))) (trackedOf (call (now (samples .entry)) (now (catalogue .entry)) (settingsOf width height threshold cx cy f needed tolerance) (now (room .entry))))) (now (out .entry)) ⌝ }
+    ensures { λ _. ⌜ now (room .exit) ≡ roomAfter (call (now (samples .entry)) (now (catalogue .entry)) (settingsOf width height threshold cx cy (statedLens kind first second) needed tolerance) (now (room .entry))) ⌝ }
+    ensures { λ _. ⌜ now (out .exit) ≡ handedOver (chainNumbers (recordsIn (now (catalogue .entry))) (trackedOf (call (now (samples .entry)) (now (catalogue .entry)) (settingsOf width height threshold cx cy (statedLens kind first second) needed tolerance) (now (room .entry))))) (now (out .entry)) ⌝ }
 {
+    let lens = lens::stated(kind, first, second);
     let settings = Settings {
         width,
         height,
@@ -50,7 +54,7 @@ pub extern "C" fn mnemathor_chain(
         needed,
         cx,
         cy,
-        focal: f,
+        lens,
         tolerance,
     };
     let tracked = tracker::track(samples, catalogue, settings, room);

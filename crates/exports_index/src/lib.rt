@@ -6,6 +6,7 @@ use index::Built;
 use tracker::Settings;
 ghost use mathlib.Core.Path.{_≡_};
 ghost use lib.ListN.{length};
+ghost use Rattle.lens.specs.Stated.{statedLens};
 ghost use Rattle.catalogue.specs.Format.{recordsIn};
 ghost use Rattle.index.specs.Build.{builtOf, roomAfter as indexRoom};
 ghost use Rattle.index_ranking.specs.Call.{call as rankingCall, outcomeOf, roomAfter as rankingRoom};
@@ -61,7 +62,9 @@ pub extern "C" fn mnemathor_chain_by_index(
     threshold: usize,
     cx: i64,
     cy: i64,
-    f: i64,
+    kind: u32,
+    first: f64,
+    second: f64,
     catalogue: &[u8],
     index: &[u8],
     floor: i64,
@@ -70,9 +73,10 @@ pub extern "C" fn mnemathor_chain_by_index(
     room: &mut [u16],
     out: &mut [i64],
 )
-    ensures { λ _. ⌜ now (room .exit) ≡ chainRoom (chainCall (now (samples .entry)) (now (catalogue .entry)) (now (index .entry)) floor (settingsOf width height threshold cx cy f needed tolerance) (now (room .entry))) ⌝ }
-    ensures { λ _. ⌜ now (out .exit) ≡ handedOver (chainNumbers (recordsIn (now (catalogue .entry))) (trackedOf (chainCall (now (samples .entry)) (now (catalogue .entry)) (now (index .entry)) floor (settingsOf width height threshold cx cy f needed tolerance) (now (room .entry))))) (now (out .entry)) ⌝ }
+    ensures { λ _. ⌜ now (room .exit) ≡ chainRoom (chainCall (now (samples .entry)) (now (catalogue .entry)) (now (index .entry)) floor (settingsOf width height threshold cx cy (statedLens kind first second) needed tolerance) (now (room .entry))) ⌝ }
+    ensures { λ _. ⌜ now (out .exit) ≡ handedOver (chainNumbers (recordsIn (now (catalogue .entry))) (trackedOf (chainCall (now (samples .entry)) (now (catalogue .entry)) (now (index .entry)) floor (settingsOf width height threshold cx cy (statedLens kind first second) needed tolerance) (now (room .entry))))) (now (out .entry)) ⌝ }
 {
+    let lens = lens::stated(kind, first, second);
     let settings = Settings {
         width,
         height,
@@ -80,7 +84,7 @@ pub extern "C" fn mnemathor_chain_by_index(
         needed,
         cx,
         cy,
-        focal: f,
+        lens,
         tolerance,
     };
     let tracked = index_tracker::track(samples, catalogue, index, floor, settings, room);

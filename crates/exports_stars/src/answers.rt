@@ -1,28 +1,16 @@
 // What each call of the stars hands over.
 use attitude::Attitude;
 use catalogue::Checked;
-use direction::Direction;
 use handover::of_count;
 use handover::of_matrix;
 use handover::of_outcome;
 use handover::of_refusal;
-use handover::of_vector;
 use handover::put_names;
 use search::Identification;
 ghost use mathlib.Core.Path.{_≡_};
-ghost use Rattle.exports_stars.specs.Direction.{directionNumbers};
 ghost use Rattle.exports_stars.specs.Catalogue.{catalogueNumbers};
 ghost use Rattle.exports_stars.specs.Search.{searchNumbers};
 ghost use Rattle.exports_stars.specs.Attitude.{attitudeNumbers};
-
-pub(crate) fn of_direction(direction: Direction) -> [i64; 64]
-    ensures { λ r. ⌜ r ≡ directionNumbers direction ⌝ }
-{
-    match direction {
-        Direction::Refused(refusal) => of_refusal(refusal),
-        Direction::Found(v) => of_vector(v),
-    }
-}
 
 pub(crate) fn of_catalogue(checked: Checked) -> [i64; 64]
     ensures { λ r. ⌜ r ≡ catalogueNumbers checked ⌝ }

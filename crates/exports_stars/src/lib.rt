@@ -1,9 +1,8 @@
-// The C interface of the stars' calls: a position's direction, the catalogue's check, the ranking, the search, and the attitude.
+// The C interface of the stars' calls: the catalogue's check, the ranking, the search, and the attitude.
 mod answers;
 
 use handover::vector_at;
 ghost use mathlib.Core.Path.{_≡_};
-ghost use Rattle.direction.specs.Direction.{directionOf};
 ghost use Rattle.direction.specs.ListLaws.{directionsIn};
 ghost use Rattle.catalogue.specs.Format.{recordsIn};
 ghost use Rattle.catalogue.specs.Check.{checkedOf};
@@ -11,21 +10,9 @@ ghost use Rattle.ranking.specs.Room.{rankOutcomeOf, roomAfter};
 ghost use Rattle.search.specs.Identified.{identificationOf};
 ghost use Rattle.handover.specs.Room.{handedOver};
 ghost use Rattle.handover.specs.Numbers.{rankingNumbers};
-ghost use Rattle.exports_stars.specs.Direction.{directionNumbers};
 ghost use Rattle.exports_stars.specs.Catalogue.{catalogueNumbers};
 ghost use Rattle.exports_stars.specs.Search.{searchNumbers};
 ghost use Rattle.exports_stars.specs.Attitude.{attitudeHanded};
-
-// The direction of a position.
-#[no_mangle]
-pub extern "C" fn mnemathor_direction(cx: i64, cy: i64, f: i64, x: i64, y: i64, out: &mut [i64])
-    ensures { λ _. ⌜ now (out .exit) ≡ handedOver (directionNumbers (directionOf cx cy f x y)) (now (out .entry)) ⌝ }
-{
-    handover::hand_over(
-        out,
-        answers::of_direction(direction::direction_of(cx, cy, f, x, y)),
-    );
-}
 
 // How many records a catalogue has.
 #[no_mangle]

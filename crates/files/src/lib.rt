@@ -36,7 +36,7 @@ pub fn read_settings(bytes: &[u8]) -> Reading
         needed: words::u16_at(bytes, 6) as usize,
         cx: words::u32_at(bytes, 8) as i64,
         cy: words::u32_at(bytes, 12) as i64,
-        focal: words::u32_at(bytes, 16) as i64,
+        lens: lens::of_settings(words::u32_at(bytes, 16)),
         tolerance: words::u64_at(bytes, 24),
     })
 }

@@ -2,7 +2,6 @@
 use mathlib.Core.Path.{_≡_, refl, sym, ap, _∙_, subst}
 use mathlib.Core.List.{List}
 use Prim.Native.Nat.{ℕ, _*_, _≤_}
-use native.Mathlib.Omega.{arith}
 use lib.ListN.{length, take}
 use Rattle.refusal.specs.declared.Refusal.{Refusal}
 use Rattle.refusal.specs.declared.Outcome.{Outcome}
@@ -25,7 +24,7 @@ module _ (c : Call) (r : Refusal) (ranking : List ℕ) (h : Refuses c r ranking)
       by (Refused q) k =
           let a : Refused q ≡ Refused r = sym (ap (λ (o : Outcome). answered refusedWith (locatedOf (listed c .report) (c .catalogue) (c .settings)) o .outcome) k) ∙ h .outcome in
           let n : q .number ≡ r .number = cc in
-          absurd (omega (arith, refused-early c q k .most, n, e))
+          absurd (refused-early c q k .no-14 (n ∙ e))
 
   pub words-few : listed c .report .count * recordsIn (c .catalogue) ≤ 4096
   words-few = words-most _ _ _ _ (ready c admitted)

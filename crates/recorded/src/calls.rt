@@ -5,6 +5,8 @@ use crate::print::print_call;
 use crate::print::print_end;
 use crate::print::print_more;
 use crate::stream::expand;
+use crate::stream::float;
+use crate::stream::half;
 use crate::stream::read_directions;
 use crate::stream::read_wholes;
 use crate::stream::read_words;
@@ -67,11 +69,13 @@ pub fn list(fd: i32, bytes: &mut [u8], samples: &mut [u16]) {
 pub fn direction(fd: i32) {
     let cx = signed(word(fd));
     let cy = signed(word(fd));
-    let f = signed(word(fd));
+    let kind = half(fd);
+    let first = float(fd);
+    let second = float(fd);
     let x = signed(word(fd));
     let y = signed(word(fd));
     let mut out = [0i64; 64];
-    exports_stars::mnemathor_direction(cx, cy, f, x, y, &mut out);
+    exports_camera::mnemathor_direction(cx, cy, kind, first, second, x, y, &mut out);
     print_call(3, &out, 5);
     print_end();
 }
@@ -142,7 +146,9 @@ fn print_chain(
     threshold: usize,
     cx: i64,
     cy: i64,
-    f: i64,
+    kind: u32,
+    first: f64,
+    second: f64,
     stars: &[u8],
     needed: usize,
     tolerance: u64,
@@ -157,7 +163,9 @@ fn print_chain(
         threshold,
         cx,
         cy,
-        f,
+        kind,
+        first,
+        second,
         stars,
         needed,
         tolerance,
@@ -176,7 +184,9 @@ pub fn chain(fd: i32, bytes: &mut [u8], samples: &mut [u16], stars: &mut [u8], r
     let threshold = word(fd) as usize;
     let cx = signed(word(fd));
     let cy = signed(word(fd));
-    let f = signed(word(fd));
+    let kind = half(fd);
+    let first = float(fd);
+    let second = float(fd);
     let needed = word(fd) as usize;
     let tolerance = word(fd);
     let n = read_words(fd, bytes, samples);
@@ -189,7 +199,9 @@ pub fn chain(fd: i32, bytes: &mut [u8], samples: &mut [u16], stars: &mut [u8], r
         threshold,
         cx,
         cy,
-        f,
+        kind,
+        first,
+        second,
         &stars[0..s],
         needed,
         tolerance,
@@ -266,7 +278,9 @@ fn print_chain_by_index(
     threshold: usize,
     cx: i64,
     cy: i64,
-    f: i64,
+    kind: u32,
+    first: f64,
+    second: f64,
     stars: &[u8],
     index: &[u8],
     floor: i64,
@@ -283,7 +297,9 @@ fn print_chain_by_index(
         threshold,
         cx,
         cy,
-        f,
+        kind,
+        first,
+        second,
         stars,
         index,
         floor,
@@ -311,7 +327,9 @@ pub fn chain_by_index(
     let threshold = word(fd) as usize;
     let cx = signed(word(fd));
     let cy = signed(word(fd));
-    let f = signed(word(fd));
+    let kind = half(fd);
+    let first = float(fd);
+    let second = float(fd);
     let floor = signed(word(fd));
     let needed = word(fd) as usize;
     let tolerance = word(fd);
@@ -326,7 +344,9 @@ pub fn chain_by_index(
         threshold,
         cx,
         cy,
-        f,
+        kind,
+        first,
+        second,
         &stars[0..s],
         &index[0..x],
         floor,
@@ -343,7 +363,9 @@ fn print_burst(
     threshold: usize,
     cx: i64,
     cy: i64,
-    f: i64,
+    kind: u32,
+    first: f64,
+    second: f64,
     stars: &[u8],
     needed: usize,
     tolerance: u64,
@@ -360,7 +382,9 @@ fn print_burst(
         threshold,
         cx,
         cy,
-        f,
+        kind,
+        first,
+        second,
         stars,
         needed,
         tolerance,
@@ -389,7 +413,9 @@ pub fn burst(
     let threshold = word(fd) as usize;
     let cx = signed(word(fd));
     let cy = signed(word(fd));
-    let f = signed(word(fd));
+    let kind = half(fd);
+    let first = float(fd);
+    let second = float(fd);
     let needed = word(fd) as usize;
     let tolerance = word(fd);
     let n = read_words(fd, bytes, samples);
@@ -403,11 +429,23 @@ pub fn burst(
         threshold,
         cx,
         cy,
-        f,
+        kind,
+        first,
+        second,
         &stars[0..s],
         needed,
         tolerance,
         &mut room[0..w],
         &mut records[0..r],
     );
+}
+
+pub fn lens(fd: i32) {
+    let kind = half(fd);
+    let first = float(fd);
+    let second = float(fd);
+    let mut out = [0i64; 64];
+    exports_camera::mnemathor_lens(kind, first, second, &mut out);
+    print_call(16, &out, 3);
+    print_end();
 }

@@ -28,6 +28,7 @@ fn run(
         13 => calls::burst(fd, bytes, samples, stars, room, index),
         14 => gimbal::cosines(fd, bytes),
         15 => gimbal::turned(fd, bytes),
+        16 => calls::lens(fd),
         8 => calls::chain(fd, bytes, samples, stars, room),
         _ => calls::reason(fd, bytes, samples),
     }

@@ -46,6 +46,16 @@ pub fn word(fd: i32) -> u64 {
     number(&eight, 0, 8)
 }
 
+// The next word, of which the last 4 bytes count.
+pub fn half(fd: i32) -> u32 {
+    (word(fd) % 0x1_0000_0000) as u32
+}
+
+// The next word as a float's bits.
+pub fn float(fd: i32) -> f64 {
+    floats::float_of(word(fd))
+}
+
 // How many bytes n elements have, at most as many as there is room for.
 fn size_of(n: u64, width: usize, most: usize) -> usize
     requires { ⌜ width ≤ 8 ⌝ }

@@ -12,20 +12,25 @@ use Rattle.refusal.specs.Table.{refusalOf, lowest, otherwise}
 use Rattle.refusal.specs.Laws.{lowest-append}
 use Rattle.frame.specs.Input.{frameRows}
 use Rattle.frame.specs.Calls.{listingOf}
-use Rattle.direction.specs.Settings.{settingsOk}
+use Rattle.lens.specs.Lens.{lensOk}
+use Rattle.direction.specs.Settings.{positionOk}
 use Rattle.catalogue.specs.Check as catalogue
 use Rattle.search.specs.Refusals.{demandOk}
 use Rattle.tracker.specs.declared.Settings.{Settings}
 use Rattle.tracker.specs.Chain.{Call, listed, settingsRows, demandRows, refusalsOf}
 
 module _ (s : Settings) where
-  pub settings-refused : settingsOk (s .cx) (s .cy) (s .focal) ≡ false → lowest (settingsRows s) ≡ refusalOf number.settings 0
+  pub lens-refused : lensOk (s .lens) ≡ false → lowest (settingsRows s) ≡ refusalOf number.lens 0
   unfolding settingsRows lowest
-  settings-refused e = rw e
+  lens-refused e = rw e
 
-  pub settings-passed : settingsOk (s .cx) (s .cy) (s .focal) ≡ true → lowest (settingsRows s) ≡ Accepted
+  pub settings-refused : lensOk (s .lens) ≡ true → positionOk (s .cx) (s .cy) ≡ false → lowest (settingsRows s) ≡ refusalOf number.settings 0
   unfolding settingsRows lowest
-  settings-passed e = rw e
+  settings-refused e k = rw (e, k)
+
+  pub settings-passed : lensOk (s .lens) ≡ true → positionOk (s .cx) (s .cy) ≡ true → lowest (settingsRows s) ≡ Accepted
+  unfolding settingsRows lowest
+  settings-passed e k = rw (e, k)
 
   module _ (words count : ℕ) where
     pub demand-refused : demandOk (s .needed) (s .tolerance) ≡ false → lowest (demandRows s words count) ≡ refusalOf number.demand 0

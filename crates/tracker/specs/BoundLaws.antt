@@ -42,9 +42,9 @@ use Rattle.tracker.specs.NeverLaws.{search-known, in-range}
 
 -- ---- number and place
 
--- a number of document 01's chain, and a place in a frame of 1,024 x 1,024 or in a catalogue
+-- a number that the chain can give, and a place in a frame of 1,024 x 1,024 or in a catalogue
 pub record Low (o : Outcome) : Type 0 where
-  pub number : answerOf o .number ≤ 14
+  pub number : answerOf o .number ≤ 19
   pub place : answerOf o .place ≤ 1048576
 
 accepted-low : Low Accepted
@@ -54,7 +54,7 @@ none-low : Low (lowest [])
 unfolding lowest
 none-low = accepted-low
 
-row-low : (c : Bool) (n p : ℕ) (rows : List Row) → n ≤ 14 → (c ≡ true → p ≤ 1048576) → (c ≡ false → Low (lowest rows)) → Low (lowest (rowAt c n p ∷ rows))
+row-low : (c : Bool) (n p : ℕ) (rows : List Row) → n ≤ 19 → (c ≡ true → p ≤ 1048576) → (c ≡ false → Low (lowest rows)) → Low (lowest (rowAt c n p ∷ rows))
 unfolding lowest
 row-low true n p rows h f g = record { number = h; place = f refl }
 row-low false n p rows h f g = g refl
@@ -73,7 +73,7 @@ frame-low samples width height threshold =
     (λ _. none-low))))
 
 -- a row that names no place
-plain-low : (c : Bool) (n : ℕ) (rows : List Row) → n ≤ 14 → Low (lowest rows) → Low (lowest (rowAt c n 0 ∷ rows))
+plain-low : (c : Bool) (n : ℕ) (rows : List Row) → n ≤ 19 → Low (lowest rows) → Low (lowest (rowAt c n 0 ∷ rows))
 plain-low c n rows h k = row-low c n 0 rows h (λ _. zero-le) (λ _. k)
 
 catalogue-low : (bytes : List ℕ) → Low (lowest (catalogue.refusalsOf bytes))
@@ -90,7 +90,7 @@ rows-low c =
     let s = c .settings in
     subst Low (sym (refusals-joined c))
     (otherwise-low _ _ (frame-low (c .samples) (s .width) (s .height) (s .threshold))
-    (otherwise-low _ _ (plain-low _ 5 [] (omega arith) none-low)
+    (otherwise-low _ _ (plain-low _ 19 _ (omega arith) (plain-low _ 5 [] (omega arith) none-low))
     (otherwise-low _ _ (catalogue-low (c .catalogue))
     (plain-low _ 9 _ (omega arith) (plain-low _ 10 _ (omega arith) (plain-low _ 12 [] (omega arith) none-low))))))
 

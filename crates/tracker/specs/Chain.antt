@@ -15,7 +15,8 @@ use Rattle.frame.specs.declared.Listing.{Listing}
 use Rattle.frame.specs.Input.{frameRows}
 use Rattle.frame.specs.Stars.{nothing}
 use Rattle.frame.specs.Calls.{listingOf}
-use Rattle.direction.specs.Settings.{settingsOk}
+use Rattle.lens.specs.Lens.{lensOk}
+use Rattle.direction.specs.Settings.{positionOk}
 use Rattle.catalogue.specs.Format.{recordsIn}
 use Rattle.catalogue.specs.Stars.{starsOf}
 use Rattle.catalogue.specs.Check as catalogue
@@ -82,9 +83,9 @@ call f k s r = record { samples = f; catalogue = k; settings = s; room = r }
 abbrev pub listed : Call → Listing
 listed c = listingOf (c .samples) (c .settings .width) (c .settings .height) (c .settings .threshold)
 
--- the refusals that are known before anything is written: 5, 9, 10 and 12 beside the frame's 1 to 4 and the catalogue's 6 and 7
+-- the refusals that are known before anything is written: 19 and 5, and 9, 10 and 12, beside the frame's 1 to 4 and the catalogue's 6 and 7
 unfoldable pub settingsRows : Settings → List Row
-settingsRows s = row (not (settingsOk (s .cx) (s .cy) (s .focal))) number.settings ∷ []
+settingsRows s = row (not (lensOk (s .lens))) number.lens ∷ row (not (positionOk (s .cx) (s .cy))) number.settings ∷ []
 
 -- the chain asks for room for any ranking, 4,096 words
 unfoldable pub demandRows : Settings → ℕ → ℕ → List Row
@@ -104,7 +105,7 @@ refusalsOf c =
 unfoldable pub trackedOf : Call → Tracked
 trackedOf c = answered refusedWith (locatedOf (listed c .report) (c .catalogue) (c .settings)) (lowest (refusalsOf c))
 
--- one of 1 to 12 leaves the room untouched; from there on the ranking stands in it, also where 13 or 14 is given
+-- one of 1 to 12 or 19 leaves the room untouched; from there on the ranking stands in it, also where 13 or 14 is given
 unfoldable pub roomAfter : Call → List ℕ
 roomAfter c = answered (λ r. c .room) (rankedRoom (listed c .report) (c .catalogue) (c .settings) (c .room)) (lowest (refusalsOf c))
 

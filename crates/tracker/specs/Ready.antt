@@ -58,6 +58,6 @@ pub record Settles (directions : List ℤ) (bytes : List ℕ) (found : Identific
   pub catalogue : Valid bytes
   pub two : found .outcome ≡ Accepted → 2 ≤ assigned (recordsIn bytes) (found .stars) (length directions / 3)
 
--- the same of a whole call; where one of 1 to 12 is given, nothing is named
+-- the same of a whole call; where one of 1 to 12 or 19 is given, nothing is named
 abbrev pub Tracks : Call → Tracked → Type 0
 Tracks c = Names (listed c .report) (c .catalogue) (c .settings)

@@ -1,13 +1,14 @@
--- Where none of 1 to 12 applies, the steps behind the frame's list have what they ask for; and no other number is given before them. Assumes nothing.
-use mathlib.Core.Bool.{Bool, true, false, not, _&&_, and-eq-true-iff}
+-- Where none of 1 to 12 and 19 applies, the steps behind the frame's list have what they ask for; and no other number is given before them. Assumes nothing.
+use mathlib.Core.Bool.{Bool, true, false, not, _&&_, _||_, and-eq-true-iff}
 use mathlib.Core.Path.{_≡_, refl, sym, ap, _∙_, subst}
 use mathlib.Core.List.{List, [], _∷_, _++_}
 use Prim.Native.Nat.{ℕ, zero, suc, _+_, _*_, _≤_, _<_, min, zero-le}
 use native.Mathlib.Decide.{decLt}
 use native.Mathlib.Omega.{arith}
 use borrow.Author.Tests.{not-false, leb-true, ltb-false}
-use lib.Dec.{leb, ltb}
+use lib.Dec.{leb, ltb, eqb}
 use lib.ListN.{length, take, replicate, getD, length-take, length-append, length-replicate, List·getD-eq-default}
+use Rattle.counting.specs.Contradiction.{contradiction}
 use Rattle.refusal.specs.declared.Refusal.{Refusal}
 use Rattle.refusal.specs.declared.Outcome.{Outcome}
 use Rattle.refusal.specs.declared.Outcome.the-variants.{Accepted, Refused}
@@ -127,52 +128,36 @@ ready c e =
       long = d .1;
     }
 
--- the numbers that are given before anything is written: none above 12, and neither 8 nor 11
+-- the numbers that are given before anything is written: not 8 or 11, which cannot arise, and not 13 or 14, which come behind the ranking
 pub record Early (n : ℕ) : Type 0 where
-  pub most : n ≤ 12
   pub no-8 : n ≡ 8 → ⊥
   pub no-11 : n ≡ 11 → ⊥
+  pub no-13 : n ≡ 13 → ⊥
+  pub no-14 : n ≡ 14 → ⊥
+
+other : ℕ → Bool
+other n = eqb n 8 || eqb n 11 || eqb n 13 || eqb n 14
+
+early : (n : ℕ) → other n ≡ false → Early n
+unfolding other
+early n e =
+    record {
+      no-8 = λ k. contradiction (sym e ∙ ap other k);
+      no-11 = λ k. contradiction (sym e ∙ ap other k);
+      no-13 = λ k. contradiction (sym e ∙ ap other k);
+      no-14 = λ k. contradiction (sym e ∙ ap other k);
+    }
 
 refusals-early : (c : Call) → Every Early (refusalsOf c)
-unfolding refusalsOf settingsRows demandRows catalogueRows Every
+unfolding refusalsOf settingsRows demandRows catalogueRows Every other
 refusals-early c =
     let s = c .settings in
     let f = frameRows (c .samples) (s .width) (s .height) (s .threshold) in
     let k = catalogue.refusalsOf (c .catalogue) in
     let d = demandRows s (length (c .room)) (listed c .report .count) in
-    every-append Early f (settingsRows s ++ (k ++ d)) (early-1, (early-2, (early-3, (early-4, tt))))
-    (every-append Early (settingsRows s) (k ++ d) (early-5, tt)
-    (every-append Early k d (early-6, (early-7, tt)) (early-9, (early-10, (early-12, tt)))))
-  where
-    early-1 : Early 1
-    early-1 = record { most = omega arith; no-8 = λ e. omega arith; no-11 = λ e. omega arith }
-
-    early-2 : Early 2
-    early-2 = record { most = omega arith; no-8 = λ e. omega arith; no-11 = λ e. omega arith }
-
-    early-3 : Early 3
-    early-3 = record { most = omega arith; no-8 = λ e. omega arith; no-11 = λ e. omega arith }
-
-    early-4 : Early 4
-    early-4 = record { most = omega arith; no-8 = λ e. omega arith; no-11 = λ e. omega arith }
-
-    early-5 : Early 5
-    early-5 = record { most = omega arith; no-8 = λ e. omega arith; no-11 = λ e. omega arith }
-
-    early-6 : Early 6
-    early-6 = record { most = omega arith; no-8 = λ e. omega arith; no-11 = λ e. omega arith }
-
-    early-7 : Early 7
-    early-7 = record { most = omega arith; no-8 = λ e. omega arith; no-11 = λ e. omega arith }
-
-    early-9 : Early 9
-    early-9 = record { most = omega arith; no-8 = λ e. omega arith; no-11 = λ e. omega arith }
-
-    early-10 : Early 10
-    early-10 = record { most = omega arith; no-8 = λ e. omega arith; no-11 = λ e. omega arith }
-
-    early-12 : Early 12
-    early-12 = record { most = omega arith; no-8 = λ e. omega arith; no-11 = λ e. omega arith }
+    every-append Early f (settingsRows s ++ (k ++ d)) (early 1 refl, (early 2 refl, (early 3 refl, (early 4 refl, tt))))
+    (every-append Early (settingsRows s) (k ++ d) (early 19 refl, (early 5 refl, tt))
+    (every-append Early k d (early 6 refl, (early 7 refl, tt)) (early 9 refl, (early 10 refl, (early 12 refl, tt)))))
 
 pub refused-early : (c : Call) (q : Refusal) → lowest (refusalsOf c) ≡ Refused q → Early (q .number)
 refused-early c = lowest-every Early (refusalsOf c) (refusals-early c)

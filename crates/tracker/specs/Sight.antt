@@ -8,7 +8,7 @@ use Rattle.centroid.specs.declared.Centroid.{Centroid}
 use Rattle.tracker.specs.declared.Settings.{Settings}
 use Rattle.direction.specs.declared.Direction.{Direction}
 use Rattle.direction.specs.declared.Direction.the-variants.{Refused, Found}
-use Rattle.direction.specs.Direction.{directionOf}
+use Rattle.camera.specs.Camera.{directionOf}
 
 -- the vector of a direction that was found
 abbrev pub vectorOf : Direction → Vec3
@@ -16,7 +16,7 @@ vectorOf (Refused r) = record { x = pos 0; y = pos 0; z = pos 0 }
 vectorOf (Found v) = v
 
 unfoldable pub sightOf : Settings → Centroid → Vec3
-sightOf s star = vectorOf (directionOf (s .cx) (s .cy) (s .focal) (pos (star .x)) (pos (star .y)))
+sightOf s star = vectorOf (directionOf (s .cx) (s .cy) (s .lens) (pos (star .x)) (pos (star .y)))
 
 abbrev pub numbersOf : Vec3 → List ℤ → List ℤ
 numbersOf v rest = v .x ∷ (v .y ∷ (v .z ∷ rest))

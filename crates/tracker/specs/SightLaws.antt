@@ -15,18 +15,18 @@ use Rattle.centroid.specs.declared.Centroid.{Centroid}
 use Rattle.tracker.specs.declared.Settings.{Settings}
 use Rattle.direction.specs.declared.Direction.{Direction}
 use Rattle.direction.specs.declared.Direction.the-variants.{Refused, Found}
-use Rattle.direction.specs.Direction.{directionOf}
-use Rattle.direction.specs.DirectionLaws.{found-within}
+use Rattle.camera.specs.Camera.{directionOf}
+use Rattle.camera.specs.Laws.{found-within}
 use Rattle.tracker.specs.Sight.{vectorOf, sightOf, numbersOf, directionsOf, nowhere}
 
 module _ (s : Settings) where
   pub sight-within : (star : Centroid) → Within3 1000000000 (sightOf s star)
   unfolding sightOf
-  sight-within star = by (directionOf (s .cx) (s .cy) (s .focal) (pos (star .x)) (pos (star .y))) refl
+  sight-within star = by (directionOf (s .cx) (s .cy) (s .lens) (pos (star .x)) (pos (star .y))) refl
     where
-      by : (d : Direction) → directionOf (s .cx) (s .cy) (s .focal) (pos (star .x)) (pos (star .y)) ≡ d → Within3 1000000000 (vectorOf d)
+      by : (d : Direction) → directionOf (s .cx) (s .cy) (s .lens) (pos (star .x)) (pos (star .y)) ≡ d → Within3 1000000000 (vectorOf d)
       by (Refused r) e = record { x = record { within = zero-le }; y = record { within = zero-le }; z = record { within = zero-le } }
-      by (Found v) e = found-within (s .cx) (s .cy) (s .focal) (pos (star .x)) (pos (star .y)) v e
+      by (Found v) e = found-within (s .cx) (s .cy) (s .lens) (pos (star .x)) (pos (star .y)) v e
 
   pub directions-length : (stars : List Centroid) → length (directionsOf s stars) ≡ 3 * length stars
   unfolding directionsOf

@@ -1,6 +1,7 @@
-// What the chain asks before it writes anything: the refusals 1 to 12, the lowest that applies.
+// What the chain asks before it writes anything: the refusals 1 to 12, and 19 right before 5, the first that applies.
 use crate::Settings;
 use catalogue::Checked;
+use direction::settings::position_ok;
 use refusal::Outcome;
 ghost use mathlib.Core.Path.{_≡_};
 ghost use Rattle.refusal.specs.Table.{lowest, otherwise};
@@ -11,11 +12,15 @@ ghost use Rattle.tracker.specs.Chain.{settingsRows, demandRows};
 // The words that the room must have, for 8 directions and 512 stars.
 const ROOM: usize = 4096;
 
-// 5.
+// 19, and then 5.
 fn settings_outcome(settings: Settings) -> Outcome
     ensures { λ r. ⌜ r ≡ lowest (settingsRows settings) ⌝ }
 {
-    if !direction::settings_ok(settings.cx, settings.cy, settings.focal) {
+    let lens = settings.lens;
+    if !lens::lens_ok(lens) {
+        return refusal::plain(refusal::LENS);
+    }
+    if !position_ok(settings.cx, settings.cy) {
         return refusal::plain(refusal::SETTINGS);
     }
     Outcome::Accepted

@@ -7,6 +7,7 @@ pub mod sight;
 use attitude::Matrix;
 use centroid::Centroid;
 use frame::Report;
+use lens::Lens;
 use refusal::Outcome;
 use refusal::Refusal;
 use search::Identification;
@@ -15,8 +16,8 @@ ghost use mathlib.Core.Path.{_≡_};
 ghost use Rattle.tracker.specs.Chain.{refusedWith, call, trackedOf, roomAfter, namesOf};
 ghost use Rattle.tracker.specs.Ready.{Tracks};
 
-// The camera's settings: the frame's size and threshold, the centre and the focal length in 1/256 pixel, how many directions need a star, and how
-// far apart two dot products may be.
+// The camera's settings: the frame's size and threshold, the centre in 1/256 pixel, the lens, how many directions need a star, and how far apart two
+// dot products may be.
 pub struct Settings {
     pub width: usize,
     pub height: usize,
@@ -24,7 +25,7 @@ pub struct Settings {
     pub needed: usize,
     pub cx: i64,
     pub cy: i64,
-    pub focal: i64,
+    pub lens: Lens,
     pub tolerance: u64,
 }
 

@@ -20,7 +20,8 @@ fn direction_at(settings: Settings, star: Centroid) -> Vec3
 {
     let x = star.x as i64;
     let y = star.y as i64;
-    match direction::direction_of(settings.cx, settings.cy, settings.focal, x, y) {
+    let lens = settings.lens;
+    match camera::direction_of(settings.cx, settings.cy, lens, x, y) {
         Direction::Found(v) => v,
         Direction::Refused(_) => Vec3 { x: 0, y: 0, z: 0 },
     }

@@ -1,4 +1,4 @@
--- `direction::direction_of` meets its contract: it tests the settings, then the position. Assumes nothing.
+-- `direction::direction_of` meets its contract: it tests the centre, then the position. Assumes nothing.
 use mathlib.Core.Bool.{true}
 use mathlib.Core.Path.{_≡_, sym, ap, _∙_}
 use borrow.Author.Tests.{not-true, not-false}
@@ -7,47 +7,47 @@ use mir.Syntax.{w64}
 use Rattle.numbers.specs.Num.{Num, param, arg, sub, fits, back, near, above}
 use Rattle.direction.specs.declared.Direction.{Direction}
 use Rattle.direction.specs.declared.Direction.the-variants.{Found}
-use Rattle.direction.specs.Settings.{settingsOk, positionOk}
-use Rattle.direction.specs.SettingsLaws.{Settings, Position, ok-settings, ok-position, between-within, between-positive}
+use Rattle.direction.specs.Settings.{positionOk}
+use Rattle.direction.specs.SettingsLaws.{Position, ok-position, between-within, between-positive}
 use Rattle.direction.specs.Position.{towardOf}
 use Rattle.direction.specs.Direction.{directionOf, answerOf, answerFor}
-use Rattle.direction.specs.DirectionLaws.{settings-out, position-out, in-range, answers}
+use Rattle.direction.specs.DirectionLaws.{centre-out, position-out, in-range, answers}
 use borrow.Author.Needs.{needs}
 use Rattle.direction.proofs.direction_of.Statement.{statement}
 use Rattle.direction.proofs.direction_of.Tie as tie
 
 -- the two tests, of the numbers themselves
-settings-tested : (c : tie.After-settings-ok) → c .settings-ok .result ≡ settingsOk (c .before .args .cx) (c .before .args .cy) (c .before .args .focal)
-settings-tested c =
+centre-tested : (c : tie.After-position-ok) → c .position-ok .result ≡ positionOk (c .before .args .cx) (c .before .args .cy)
+centre-tested c =
     let f = c .before .fits in
-    c .settings-ok .ensures ∙ (λ i. settingsOk (back (param (f .cx)) i) (back (param (f .cy)) i) (back (param (f .focal)) i))
+    c .position-ok .ensures ∙ (λ i. positionOk (back (param (f .cx)) i) (back (param (f .cy)) i))
 
-position-tested : (c : tie.After-position-ok) → c .position-ok .result ≡ positionOk (c .before .before .before .args .x) (c .before .before .before .args .y)
+position-tested : (c : tie.After-position-ok2) → c .position-ok2 .result ≡ positionOk (c .before .before .before .args .x) (c .before .before .before .args .y)
 position-tested c =
     let f = c .before .before .before .fits in
-    c .position-ok .ensures ∙ (λ i. positionOk (back (param (f .x)) i) (back (param (f .y)) i))
+    c .position-ok2 .ensures ∙ (λ i. positionOk (back (param (f .x)) i) (back (param (f .y)) i))
 
-settings-in : (c : tie.Else1) → settingsOk (c .before .before .args .cx) (c .before .before .args .cy) (c .before .before .args .focal) ≡ true
-settings-in c = sym (settings-tested (c .before)) ∙ not-false _ (c .if1 .left)
+centre-in : (c : tie.Else1) → positionOk (c .before .before .args .cx) (c .before .before .args .cy) ≡ true
+centre-in c = sym (centre-tested (c .before)) ∙ not-false _ (c .if1 .left)
 
 position-in : (c : tie.Else2) → positionOk (c .before .before .before .before .args .x) (c .before .before .before .before .args .y) ≡ true
 position-in c = sym (position-tested (c .before)) ∙ not-false _ (c .if2 .left)
 
 -- the numbers in their ranges
-set : (c : tie.Else2) → Settings (c .before .before .before .before .args .cx) (c .before .before .before .before .args .cy) (c .before .before .before .before .args .focal)
-set c = ok-settings _ _ _ (settings-in (c .before .before))
+centred : (c : tie.Else2) → Position (c .before .before .before .before .args .cx) (c .before .before .before .before .args .cy)
+centred c = ok-position _ _ (centre-in (c .before .before))
 
 placed : (c : tie.Else2) → Position (c .before .before .before .before .args .x) (c .before .before .before .before .args .y)
 placed c = ok-position _ _ (position-in c)
 
 abbrev X : tie.Else2 → Num w64
-X c = sub (arg (between-within _ _ (placed c .across)) tt) (arg (between-within _ _ (set c .across)) tt) tt
+X c = sub (arg (between-within _ _ (placed c .across)) tt) (arg (between-within _ _ (centred c .across)) tt) tt
 
 abbrev Y : tie.Else2 → Num w64
-Y c = sub (arg (between-within _ _ (placed c .down)) tt) (arg (between-within _ _ (set c .down)) tt) tt
+Y c = sub (arg (between-within _ _ (placed c .down)) tt) (arg (between-within _ _ (centred c .down)) tt) tt
 
 abbrev F : tie.Else2 → Num w64
-F c = arg (between-within _ _ (set c .focal)) tt
+F c = arg (between-within _ _ (c .before .before .before .before .pre)) tt
 
 -- the second promise follows from the first
 module _ (s : tie.Start) where
@@ -57,8 +57,8 @@ module _ (s : tie.Start) where
   both : {r : Direction} → r ≡ direction → (r ≡ direction) × (answerOf r ≡ answerFor (s .args .cx) (s .args .cy) (s .args .focal) (s .args .x) (s .args .y))
   both e = (e, ap (λ (d : Direction). answerOf d) e ∙ answers (s .args .cx) (s .args .cy) (s .args .focal) (s .args .x) (s .args .y))
 
-settings-ok-requires : tie.Need-settings-ok-requires
-settings-ok-requires c κs = search needs
+position-ok-requires : tie.Need-position-ok-requires
+position-ok-requires c κs = search needs
 
 refused-requires : tie.Need-refused-requires
 refused-requires c κs = search needs
@@ -66,10 +66,10 @@ refused-requires c κs = search needs
 returns : tie.Need-returns
 returns c =
     both (c .before .before .before)
-    (c .refused .ensures ∙ sym (settings-out _ _ _ _ _ (sym (settings-tested (c .before .before)) ∙ not-true _ (c .before .if1 .taken))))
+    (c .refused .ensures ∙ sym (centre-out _ _ _ _ _ (sym (centre-tested (c .before .before)) ∙ not-true _ (c .before .if1 .taken))))
 
-position-ok-requires : tie.Need-position-ok-requires
-position-ok-requires c κs = search needs
+position-ok-requires-2 : tie.Need-position-ok-requires-2
+position-ok-requires-2 c κs = search needs
 
 refused-requires-2 : tie.Need-refused-requires-2
 refused-requires-2 c κs = search needs
@@ -86,22 +86,22 @@ sub-toward-2 : tie.Need-sub-toward-2
 sub-toward-2 c = fits (Y c)
 
 toward-requires : tie.Need-toward-requires
-toward-requires c κs = (near (X c) tt, (near (Y c) tt, (near (F c) tt, above (F c) (between-positive _ _ (lit< tt) (set c .focal)))))
+toward-requires c κs = (near (X c) tt, (near (Y c) tt, (near (F c) tt, above (F c) (between-positive _ _ (lit< tt) (c .before .before .before .before .pre)))))
 
 returns-3 : tie.Need-returns-3
 returns-3 c =
     let p = c .before in
     let e = c .toward .ensures ∙ (λ i. towardOf (back (X p) i) (back (Y p) i) (back (F p) i)) in
-    both (p .before .before .before .before) (ap Found e ∙ sym (in-range _ _ _ _ _ (settings-in (p .before .before)) (position-in p)))
+    both (p .before .before .before .before) (ap Found e ∙ sym (in-range _ _ _ _ _ (centre-in (p .before .before)) (position-in p)))
 
 pub direction-of-spec : {M : Type 1} → statement M
 direction-of-spec =
     tie.close
     (tie.spec
-    settings-ok-requires
+    position-ok-requires
     refused-requires
     returns
-    position-ok-requires
+    position-ok-requires-2
     refused-requires-2
     returns-2
     sub-toward

@@ -9,6 +9,9 @@ use borrow.Author.Needs.{needs}
 use Rattle.exports_burst.proofs.mnemathor_burst.Statement.{statement}
 use Rattle.exports_burst.proofs.mnemathor_burst.Tie as tie
 
+stated-requires : tie.Need-stated-requires
+stated-requires c κs = search needs
+
 track-requires : tie.Need-track-requires
 track-requires c κs = search needs
 
@@ -31,9 +34,10 @@ returns : tie.Need-returns
 returns c =
     let o = c .before .before in
     let t = o .before .before .before .before .before .before in
-    let s = t .before .before .before .before .before .before .before in
+    let l = t .before .before .before in
+    let s = l .before .before .before .before .before in
     let a = s .args in
-    let g = settled (a .width) (a .height) (a .threshold) (a .needed) (a .tolerance) (s .fits .cx) (s .fits .cy) (s .fits .f) in
+    let g = settled (a .width) (a .height) (a .threshold) (a .needed) (a .tolerance) (s .fits .cx) (s .fits .cy) (l .stated .ensures) in
     let e = t .track .ensures in (
       e .1 .1 .1 ∙ ap (λ (x : Settings). roomAfter (call (a .samples .now) (a .catalogue .now) x (a .room .now) (a .records .now))) g,
       (
@@ -47,6 +51,7 @@ pub mnemathor-burst-spec : {M : Type 1} → statement M
 mnemathor-burst-spec =
     tie.close
     (tie.spec
+    stated-requires
     track-requires
     of-burst-requires
     hand-over-requires

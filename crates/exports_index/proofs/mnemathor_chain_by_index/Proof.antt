@@ -11,6 +11,9 @@ use borrow.Author.Needs.{needs}
 use Rattle.exports_index.proofs.mnemathor_chain_by_index.Statement.{statement}
 use Rattle.exports_index.proofs.mnemathor_chain_by_index.Tie as tie
 
+stated-requires : tie.Need-stated-requires
+stated-requires c κs = search needs
+
 track-requires : tie.Need-track-requires
 track-requires c κs = search needs
 
@@ -34,10 +37,11 @@ returns c =
     let o = c .before .before in
     let n = o .before .before in
     let t = n .before .before .before in
-    let s = t .before .before .before .before .before .before in
+    let l = t .before .before in
+    let s = l .before .before .before .before .before in
     let a = s .args in
     let b = a .catalogue .now in
-    let g = settled (a .width) (a .height) (a .threshold) (a .needed) (a .tolerance) (s .fits .cx) (s .fits .cy) (s .fits .f) in (
+    let g = settled (a .width) (a .height) (a .threshold) (a .needed) (a .tolerance) (s .fits .cx) (s .fits .cy) (l .stated .ensures) in (
       t .track .ensures .1 ∙ (λ i. roomAfter (call (a .samples .now) b (a .index .now) (back (param (s .fits .floor)) i) (g i) (a .room .now))),
       handed (chainNumbers (recordsIn b)) _ (c .before .hand-over .ensures)
           (o .of-chain .ensures ∙ ap (λ (k : ℕ). chainNumbers k (t .track .result)) (n .records .ensures))
@@ -48,6 +52,7 @@ pub mnemathor-chain-by-index-spec : {M : Type 1} → statement M
 mnemathor-chain-by-index-spec =
     tie.close
     (tie.spec
+    stated-requires
     track-requires
     records-requires
     of-chain-requires

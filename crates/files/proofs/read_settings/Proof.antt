@@ -10,6 +10,7 @@ use mir.Syntax.{w64}
 use mir.Val.{toZ}
 use mir.ValLaws.{toZ-pos}
 use lib.ListN.{length}
+use Rattle.lens.specs.Stated.{settingsLens}
 use Rattle.files.specs.Settings.{settingsOf, readingOf}
 use Rattle.files.specs.declared.Reading.the-variants.{Read}
 use Rattle.files.proofs.read_settings.Statement.{statement}
@@ -58,8 +59,8 @@ cast-t15 c = search needs
 u32-at-requires-3 : tie.Need-u32-at-requires-3
 u32-at-requires-3 c κs = search needs
 
-cast-t17 : tie.Need-cast-t17
-cast-t17 c = search needs
+of-settings-requires : tie.Need-of-settings-requires
+of-settings-requires c κs = search needs
 
 u64-at-requires : tie.Need-u64-at-requires
 u64-at-requires c κs = search needs
@@ -76,7 +77,8 @@ place {n} e h = toZ-pos w64 n (omega arith) ∙ ap pos e
 returns-2 : tie.Need-returns-2
 unfolding settingsOf
 returns-2 c =
-    let n7 = c .before in
+    let lens = c .before in
+    let n7 = lens .before in
     let n6 = n7 .before in
     let n5 = n6 .before in
     let n4 = n5 .before in
@@ -92,7 +94,7 @@ returns-2 c =
       needed = n4 .u16-at4 .ensures i;
       cx = place (n5 .u32-at .ensures) (n5 .u32-at .ok) i;
       cy = place (n6 .u32-at2 .ensures) (n6 .u32-at2 .ok) i;
-      focal = place (n7 .u32-at3 .ensures) (n7 .u32-at3 .ok) i;
+      lens = (lens .of-settings .ensures ∙ ap settingsLens (n7 .u32-at3 .ensures)) i;
       tolerance = c .u64-at .ensures i;
     }))
     ∙ sym (read-whole _ (n1 .before .if1 .left))
@@ -115,6 +117,6 @@ read-settings-spec =
     u32-at-requires-2
     cast-t15
     u32-at-requires-3
-    cast-t17
+    of-settings-requires
     u64-at-requires
     returns-2)

@@ -3,7 +3,6 @@ use borrow.Author.Needs.{needs}
 use mathlib.Core.Path.{_≡_, refl, sym, ap, _∙_, subst}
 use mathlib.Core.List.{List}
 use Prim.Native.Nat.{ℕ}
-use native.Mathlib.Omega.{arith}
 use lib.ListN.{length}
 use Rattle.counting.specs.Contradiction.{contradiction}
 use Rattle.refusal.specs.declared.Refusal.{Refusal}
@@ -66,14 +65,14 @@ numberIn : Outcome → ℕ
 numberIn Accepted = 0
 numberIn (Refused r) = r .number
 
--- a call that is refused with one of 1 to 12 names nothing, and is not refused with 13
+-- a call that is refused before anything is written names nothing, and is not refused with 13
 nothing-named : (c : Call) (q : Refusal) (t : Tracked) → lowest (refusalsOf c) ≡ Refused q → t ≡ refusedWith q → Names (listed c .report) (c .catalogue) (c .settings) t
 unfolding numberIn
 nothing-named c q t e h =
     let o : t .outcome ≡ Refused q = ap (λ (x : Tracked). x .outcome) h in
     record {
       first = λ a. let b : Refused q ≡ Accepted = sym o ∙ a in contradiction (cc);
-      none = λ n. absurd (omega (arith, refused-early c q e .most, ap numberIn (sym o ∙ n)));
+      none = λ n. absurd (refused-early c q e .no-13 (ap numberIn (sym o ∙ n)));
     }
 
 -- ---- the needs

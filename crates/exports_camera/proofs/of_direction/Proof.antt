@@ -1,9 +1,9 @@
--- `exports_stars::answers::of_direction` meets its contract, case by case. Assumes nothing.
+-- `exports_camera::of_direction` meets its contract, case by case. Assumes nothing.
 use mathlib.Core.Path.{sym, ap, _∙_}
-use Rattle.exports_stars.specs.Direction.{directionNumbers}
+use Rattle.exports_camera.specs.Direction.{directionNumbers}
 use borrow.Author.Needs.{needs}
-use Rattle.exports_stars.proofs.answers.of_direction.Statement.{statement}
-use Rattle.exports_stars.proofs.answers.of_direction.Tie as tie
+use Rattle.exports_camera.proofs.of_direction.Statement.{statement}
+use Rattle.exports_camera.proofs.of_direction.Tie as tie
 
 enum-known-direction : tie.Need-enum-known-direction
 enum-known-direction c = search needs

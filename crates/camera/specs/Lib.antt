@@ -1,0 +1,3 @@
+-- The definitions that the contract of `camera` cites, and their laws.
+pub mod Camera
+pub mod Laws

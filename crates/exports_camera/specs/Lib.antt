@@ -1,0 +1,3 @@
+-- The numbers that the camera's calls hand over. Assumes nothing.
+pub mod Lens
+pub mod Direction

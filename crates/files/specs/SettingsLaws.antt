@@ -1,0 +1,28 @@
+-- The file's focal length is the lens's: the pixel form loses nothing, so that F is what it was as a whole number. Assumes nothing.
+use mathlib.Core.List.{List}
+use mathlib.Core.Logic.{_⊎_}
+use mathlib.Core.Path.{_≡_}
+use Prim.Native.Nat.{ℕ, _≤_, _<_}
+use native.Mathlib.Nat.{lt-of-lt-of-le}
+use lib.Dec.{lit≤}
+use lib.IntN.{pos}
+use lib.ListN.{getD}
+use Rattle.words.specs.Number.{numberAt}
+use Rattle.words.specs.NumberLaws.{number-most}
+use Rattle.lens.specs.declared.Focal.the-variants.{Whole}
+use Rattle.lens.specs.Lens.{focalOf, outOfRange}
+use Rattle.lens.specs.StatedLaws.{settings-back, settings-refused}
+use Rattle.files.specs.Settings.{settingsOf}
+
+module _ (bytes : List ℕ) where
+  -- F as the file has it
+  abbrev F : ℕ
+  F = numberAt bytes 16 4
+
+  pub file-focal : 16384 ≤ F → F ≤ 4194304 → focalOf (settingsOf bytes .lens) ≡ Whole (pos F)
+  unfolding settingsOf
+  file-focal a b = settings-back F a b
+
+  pub file-refused : ((k : ℕ) → getD bytes k 0 < 256) → (F < 16384) ⊎ (4194304 < F) → focalOf (settingsOf bytes .lens) ≡ outOfRange
+  unfolding settingsOf
+  file-refused h = settings-refused F (lt-of-lt-of-le (number-most bytes 16 4 h) (lit≤ tt))
