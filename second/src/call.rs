@@ -5,6 +5,7 @@ use crate::burst::burst_within;
 use crate::chain::{chain_by_index_within, chain_within, Settings};
 use crate::float::{settled, Float};
 use crate::index::Index;
+use crate::lens::Plate;
 use crate::search::{search_within, Effort, GaveUp};
 use crate::{attitude, catalogue, direction, frame, gimbal, index, plain, ranking};
 
@@ -25,9 +26,10 @@ pub enum Entry {
     Burst,
     Cosines,
     Turned,
+    Lens,
 }
 
-pub const ENTRIES: [Entry; 15] = [
+pub const ENTRIES: [Entry; 16] = [
     Entry::Verdict,
     Entry::List,
     Entry::Direction,
@@ -43,6 +45,7 @@ pub const ENTRIES: [Entry; 15] = [
     Entry::Burst,
     Entry::Cosines,
     Entry::Turned,
+    Entry::Lens,
 ];
 
 impl Entry {
@@ -63,6 +66,7 @@ impl Entry {
             Entry::Burst => "burst",
             Entry::Cosines => "cosines",
             Entry::Turned => "row by target",
+            Entry::Lens => "lens",
         }
     }
 
@@ -77,7 +81,7 @@ impl Entry {
 
     /// How many of the 64 numbers the recorded output shows.
     pub fn numbers_shown(self) -> usize {
-        [8, 30, 5, 3, 2, 11, 11, 47, 6, 3, 2, 47, 3, 2, 2][self.index()]
+        [8, 30, 5, 3, 2, 11, 11, 47, 6, 3, 2, 47, 3, 2, 2, 3][self.index()]
     }
 
     /// Whether plain Rust has this call too.
@@ -90,25 +94,26 @@ impl Entry {
         match self {
             Entry::Verdict | Entry::Reason => &[1, 2, 3, 4, 15],
             Entry::List => &[1, 2, 3, 4],
-            Entry::Direction => &[5],
+            Entry::Direction => &[19, 5],
             Entry::Catalogue => &[6, 7],
             Entry::Ranking => &[6, 7, 8, 9, 10],
             Entry::Search => &[6, 7, 8, 9, 11, 12, 13],
             Entry::Attitude => &[8, 14],
-            Entry::Chain => &[1, 2, 3, 4, 5, 6, 7, 9, 10, 12, 13, 14],
+            Entry::Chain => &[1, 2, 3, 4, 19, 5, 6, 7, 9, 10, 12, 13, 14],
             Entry::Index => &[6, 7, 16],
             Entry::RankingByIndex => &[6, 7, 17, 8, 9, 10],
-            Entry::ChainByIndex => &[1, 2, 3, 4, 5, 6, 7, 17, 9, 10, 12, 13, 14],
+            Entry::ChainByIndex => &[1, 2, 3, 4, 19, 5, 6, 7, 17, 9, 10, 12, 13, 14],
             Entry::Burst => &[1, 2, 18],
             Entry::Cosines => &[23],
             Entry::Turned => &[],
+            Entry::Lens => &[19],
         }
     }
 
     /// What can be wrong with the call, those that concern one frame of a burst too.
     pub fn faults(self) -> &'static [u8] {
         match self {
-            Entry::Burst => &[1, 2, 18, 3, 4, 5, 6, 7, 9, 10, 12],
+            Entry::Burst => &[1, 2, 18, 3, 4, 19, 5, 6, 7, 9, 10, 12],
             _ => self.refusals(),
         }
     }
@@ -229,7 +234,7 @@ pub struct Call {
     pub column: u64,
     pub cx: i64,
     pub cy: i64,
-    pub focal: i64,
+    pub lens: Plate,
     pub x: i64,
     pub y: i64,
     pub directions: Buffer<i32>,
@@ -299,7 +304,7 @@ impl Call {
             column: 0,
             cx: 0,
             cy: 0,
-            focal: 0,
+            lens: Plate::default(),
             x: 0,
             y: 0,
             directions: Buffer::default(),
@@ -322,38 +327,23 @@ impl Call {
     /// The scalar parameters in the interface's order, as 64-bit words.
     pub fn scalars(&self) -> Vec<u64> {
         let signed = |n: i64| n as u64;
+        let frame = [self.width, self.height, self.threshold];
+        let lens = [self.lens.kind.into(), self.lens.first, self.lens.second];
+        let optics = [&[signed(self.cx), signed(self.cy)], &lens[..]].concat();
         match self.entry {
-            Entry::Verdict | Entry::Reason => {
-                vec![self.width, self.height, self.threshold, self.row, self.column]
-            }
-            Entry::List => vec![self.width, self.height, self.threshold],
-            Entry::Direction => [self.cx, self.cy, self.focal, self.x, self.y].map(signed).to_vec(),
+            Entry::Verdict | Entry::Reason => [&frame[..], &[self.row, self.column]].concat(),
+            Entry::List => frame.to_vec(),
+            Entry::Direction => [&optics[..], &[signed(self.x), signed(self.y)]].concat(),
             Entry::Catalogue | Entry::Attitude | Entry::Cosines | Entry::Turned => vec![],
             Entry::Ranking => vec![self.tolerance],
             Entry::Search => vec![self.needed, self.tolerance],
-            Entry::Chain | Entry::Burst => vec![
-                self.width,
-                self.height,
-                self.threshold,
-                signed(self.cx),
-                signed(self.cy),
-                signed(self.focal),
-                self.needed,
-                self.tolerance,
-            ],
+            Entry::Chain | Entry::Burst => [&frame[..], &optics, &[self.needed, self.tolerance]].concat(),
             Entry::Index => vec![signed(self.floor)],
             Entry::RankingByIndex => vec![signed(self.floor), self.tolerance],
-            Entry::ChainByIndex => vec![
-                self.width,
-                self.height,
-                self.threshold,
-                signed(self.cx),
-                signed(self.cy),
-                signed(self.focal),
-                signed(self.floor),
-                self.needed,
-                self.tolerance,
-            ],
+            Entry::ChainByIndex => {
+                [&frame[..], &optics, &[signed(self.floor), self.needed, self.tolerance]].concat()
+            }
+            Entry::Lens => lens.to_vec(),
         }
     }
 
@@ -365,7 +355,7 @@ impl Call {
         }
         match self.entry {
             Entry::Verdict | Entry::List | Entry::Reason => self.samples.write(bytes),
-            Entry::Direction => {}
+            Entry::Direction | Entry::Lens => {}
             Entry::Catalogue => self.catalogue.write(bytes),
             Entry::Ranking => {
                 self.directions.write(bytes);
@@ -424,7 +414,7 @@ impl Call {
             threshold: self.threshold.into(),
             cx: self.cx.into(),
             cy: self.cy.into(),
-            focal: self.focal.into(),
+            lens: self.lens,
             needed: self.needed.into(),
             tolerance: self.tolerance.into(),
         }
@@ -460,7 +450,7 @@ impl Call {
             }
             Entry::List => numbers(&frame::list(&lent.samples, set.width, set.height, set.threshold)),
             Entry::Direction => {
-                numbers(&direction::direction(set.cx, set.cy, set.focal, self.x.into(), self.y.into()))
+                numbers(&direction::direction(set.cx, set.cy, set.lens, self.x.into(), self.y.into()))
             }
             Entry::Catalogue => numbers(&catalogue::catalogue(&lent.catalogue)),
             Entry::Ranking => {
@@ -514,6 +504,7 @@ impl Call {
                 lent.turned.copy_from_slice(&turned);
                 numbers(&Ok(()))
             }
+            Entry::Lens => numbers(&self.lens.focal().map(|focal| focal as usize)),
         };
         Ok(Outcome { out, lent })
     }
@@ -529,13 +520,15 @@ impl Call {
     pub fn run_plain_on(&self, lent: &mut Lent) -> Numbers {
         let (width, height, threshold) = (self.width as usize, self.height as usize, self.threshold as usize);
         let needed = self.needed as usize;
+        let [first, second] = [self.lens.first, self.lens.second].map(f64::from_bits);
+        let lens = plain::Plate { kind: self.lens.kind, first, second };
         match self.entry {
             Entry::Verdict => {
                 let (row, column) = (self.row as usize, self.column as usize);
                 numbers(&plain::verdict(&lent.samples, width, height, threshold, row, column))
             }
             Entry::List => numbers(&plain::list(&lent.samples, width, height, threshold)),
-            Entry::Direction => numbers(&plain::direction(self.cx, self.cy, self.focal, self.x, self.y)),
+            Entry::Direction => numbers(&plain::direction(self.cx, self.cy, lens, self.x, self.y)),
             Entry::Catalogue => numbers(&plain::catalogue(&lent.catalogue)),
             Entry::Ranking => {
                 numbers(&plain::ranking(&lent.directions, &lent.catalogue, self.tolerance, &mut lent.room))
@@ -555,7 +548,7 @@ impl Call {
                 threshold,
                 self.cx,
                 self.cy,
-                self.focal,
+                lens,
                 &lent.catalogue,
                 needed,
                 self.tolerance,
@@ -576,7 +569,7 @@ impl Call {
                 threshold,
                 self.cx,
                 self.cy,
-                self.focal,
+                lens,
                 &lent.catalogue,
                 plain::Index { bytes: &lent.index, floor: self.floor },
                 needed,
@@ -590,7 +583,7 @@ impl Call {
                 threshold,
                 self.cx,
                 self.cy,
-                self.focal,
+                lens,
                 &lent.catalogue,
                 needed,
                 self.tolerance,
@@ -607,6 +600,7 @@ impl Call {
                 lent.turned.copy_from_slice(&turned.map(f64::to_bits));
                 numbers(&Ok(()))
             }
+            Entry::Lens => numbers(&plain::lens(lens).map(|focal| focal as usize)),
             Entry::Reason => panic!("plain Rust has no {}", self.entry.name()),
         }
     }

@@ -6,6 +6,7 @@ use crate::catalogue::{self, Star};
 use crate::direction::Optics;
 use crate::frame::Frame;
 use crate::index::{self, Index};
+use crate::lens::Plate;
 use crate::ranking::{check_tolerance, rank, rank_by_index};
 use crate::search::{check_enough, check_needed, first_fit, Effort, GaveUp};
 
@@ -19,7 +20,7 @@ pub struct Settings {
     pub threshold: i128,
     pub cx: i128,
     pub cy: i128,
-    pub focal: i128,
+    pub lens: Plate,
     pub needed: i128,
     pub tolerance: i128,
 }
@@ -70,8 +71,8 @@ fn chain_with(
     }
 }
 
-/// Everything that is refused before a step is taken, in the order of the numbers; an index is tested right
-/// after the catalogue.
+/// Everything that is refused before a step is taken, in the order of the numbers; but the lens is tested right after
+/// the frame, and an index right after the catalogue.
 fn check<'a>(
     samples: &'a [u16],
     settings: &Settings,
@@ -80,7 +81,7 @@ fn check<'a>(
     room: &[u16],
 ) -> Result<(Frame<'a>, Optics, Vec<Star>), Refusal> {
     let frame = Frame::check(samples, settings.width, settings.height, settings.threshold)?;
-    let optics = Optics::check(settings.cx, settings.cy, settings.focal)?;
+    let optics = Optics::check(settings.cx, settings.cy, settings.lens)?;
     let stars = catalogue::read(catalogue)?;
     if let Some(index) = index {
         index::check(index, &stars)?;

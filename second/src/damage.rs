@@ -1,8 +1,12 @@
 //! Damage that gives each refusal, in each of its ways.
 
 use crate::call::{Buffer, Call, Entry};
-use crate::generate::{index_bytes, mirrored_catalogue, FARTHEST_ENTRY, HUGE, MOST_TOLERANCE};
+use crate::float::{negated, of_whole, INFINITY};
+use crate::generate::{
+    index_bytes, mirrored_catalogue, pixels, FARTHEST_ENTRY, HUGE, MOST_TOLERANCE, NON_NUMBERS,
+};
 use crate::index::RECORD_BYTES;
+use crate::lens::{Plate, MILLIMETRES};
 use crate::random::Random;
 use crate::sky;
 
@@ -34,6 +38,7 @@ pub fn damage(call: &mut Call, reason: u8, random: &Random) {
             }
         }
         5 => damage_settings(call, random),
+        19 => damage_lens(call, random),
         6 => damage_catalogue_length(call, random),
         7 => damage_record(call, random),
         8 => damage_vectors(call, random),
@@ -95,14 +100,29 @@ fn damage_sample_count(call: &mut Call, random: &Random) {
 
 fn damage_settings(call: &mut Call, random: &Random) {
     let beyond = random.pick(&[-1, 261_889, -261_888, i64::MIN, i64::MAX, (1 << 32) + 100]);
-    match random.below(if call.entry == Entry::Direction { 5 } else { 3 }) {
+    match random.below(if call.entry == Entry::Direction { 4 } else { 2 }) {
         0 => call.cx = beyond,
         1 => call.cy = beyond,
-        2 => {
-            call.focal = random.pick(&[16_383, 4_194_305, 0, -16_384, i64::MIN, i64::MAX, (1 << 32) + 20_000])
-        }
-        3 => call.x = beyond,
+        2 => call.x = beyond,
         _ => call.y = beyond,
+    }
+}
+
+fn damage_lens(call: &mut Call, random: &Random) {
+    let lens = &mut call.lens;
+    let (first, second) = (lens.first, lens.second);
+    let none = random.pick(&[0, 1 << 63, INFINITY, negated(INFINITY), random.pick(&NON_NUMBERS)]);
+    match random.below(6) {
+        0 => lens.kind = random.pick(&[2, 3, 255, 256, 257, 1 << 31, u32::MAX]),
+        1 => lens.first = random.pick(&[none, negated(first), 1]),
+        // A sound length with a pitch that is none.
+        2 => *lens = Plate { kind: MILLIMETRES, first, second: none },
+        3 => *lens = Plate { kind: MILLIMETRES, first: negated(first), second: negated(second) },
+        4 => {
+            *lens =
+                Plate::of_focal(random.pick(&[16_383, 4_194_305, 0, -16_384, i64::MIN, i64::MAX, 1 << 40]))
+        }
+        _ => *lens = pixels(random.pick(&[of_whole(64) - 1, Plate::of_focal(4_194_305).first])),
     }
 }
 

@@ -1,20 +1,21 @@
 //! The direction of a position, seen through the camera's settings.
 
 use crate::answer::{Refusal, Vector};
+use crate::lens::Plate;
 use crate::{narrow, root, UNIT};
 
 /// The largest position and centre, in 1/256 pixel.
 const FARTHEST: i128 = 261_888;
 
-/// The centre and the focal length, within rule 5.
+/// The centre and the focal length, within rules 5 and 19.
 pub struct Optics {
     cx: i128,
     cy: i128,
     focal: i128,
 }
 
-pub fn direction(cx: i128, cy: i128, focal: i128, x: i128, y: i128) -> Result<Vector, Refusal> {
-    let optics = Optics::check(cx, cy, focal)?;
+pub fn direction(cx: i128, cy: i128, lens: Plate, x: i128, y: i128) -> Result<Vector, Refusal> {
+    let optics = Optics::check(cx, cy, lens)?;
     if !(0..=FARTHEST).contains(&x) || !(0..=FARTHEST).contains(&y) {
         return Err(Refusal::new(5));
     }
@@ -22,9 +23,10 @@ pub fn direction(cx: i128, cy: i128, focal: i128, x: i128, y: i128) -> Result<Ve
 }
 
 impl Optics {
-    pub fn check(cx: i128, cy: i128, focal: i128) -> Result<Self, Refusal> {
-        let centre_fits = (0..=FARTHEST).contains(&cx) && (0..=FARTHEST).contains(&cy);
-        if !centre_fits || !(16_384..=4_194_304).contains(&focal) {
+    /// The lens comes before the centre.
+    pub fn check(cx: i128, cy: i128, lens: Plate) -> Result<Self, Refusal> {
+        let focal = lens.focal()?;
+        if !(0..=FARTHEST).contains(&cx) || !(0..=FARTHEST).contains(&cy) {
             return Err(Refusal::new(5));
         }
         Ok(Optics { cx, cy, focal })

@@ -2,6 +2,7 @@
 
 use crate::answer::Refusal;
 use crate::chain::Settings;
+use crate::lens::Plate;
 
 /// The programs take no larger frames.
 const MOST_SAMPLES: i128 = 32_000;
@@ -21,7 +22,7 @@ pub fn read(settings: &[u8], frame: &[u8]) -> Result<(Settings, Vec<u16>), Refus
         needed: number(6, 2),
         cx: number(8, 4),
         cy: number(12, 4),
-        focal: number(16, 4),
+        lens: Plate::of_focal(number(16, 4) as i64),
         tolerance: number(24, 8),
     };
     let sides_fit = [settings.width, settings.height].iter().all(|side| (7..=1_024).contains(side));

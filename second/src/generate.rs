@@ -3,13 +3,16 @@
 use crate::burst::RECORD_BYTES;
 use crate::call::{Buffer, Call, Entry};
 use crate::damage::damage;
+use crate::lens::Plate;
 use crate::random::Random;
 use crate::sky::{self, Turn};
 use crate::{catalogue, direction, dot, frame, index, ranking};
 
 mod gimbal;
+mod lens;
 
 pub use gimbal::*;
+pub use lens::*;
 
 pub const MOST_TOLERANCE: u64 = 10_000_000_000_000_000;
 
@@ -301,7 +304,8 @@ impl Scene {
         let middle = |side: usize| 128 * side as i64;
         call.cx = middle(self.width) + random.between(-300, 300);
         call.cy = middle(self.height) + random.between(-300, 300);
-        call.focal = random.pick(&[16_384, random.between(16_384, 50_000), random.between(50_000, 400_000)]);
+        let focal = random.pick(&[16_384, random.between(16_384, 50_000), random.between(50_000, 400_000)]);
+        call.lens = plate_of(random, focal);
         call.room = chain_room(random);
 
         let turn = Turn::random(random);
@@ -309,7 +313,7 @@ impl Scene {
         let visible = self.visible.min(spots.len());
         let mut stars: Vec<[i32; 3]> = spots[..visible]
             .iter()
-            .map(|&(x, y)| turn.to_sky([x - call.cx, y - call.cy, call.focal].map(i128::from)))
+            .map(|&(x, y)| turn.to_sky([x - call.cx, y - call.cy, focal].map(i128::from)))
             .collect();
         while stars.len() < self.records.max(1) {
             stars.push(sky::anywhere(random));
@@ -359,7 +363,8 @@ fn chain_room(random: &Random) -> Buffer<u16> {
 /// Where a direction of the camera falls on the frame.
 fn project(call: &Call, direction: [i32; 3]) -> (i64, i64) {
     let [x, y, z] = direction.map(i64::from);
-    (call.cx + call.focal * x / z, call.cy + call.focal * y / z)
+    let focal = call.lens.focal().expect("the lens keeps its rule") as i64;
+    (call.cx + focal * x / z, call.cy + focal * y / z)
 }
 
 /// A tolerance that lets the true match pass, most often with room to spare.
@@ -370,7 +375,7 @@ fn scene_tolerance(random: &Random, call: &Call, spots: &[(i64, i64)], stars: &[
     let mut view = View { stars: stars.to_vec(), directions: Vec::new(), truth: Vec::new() };
     for star in &list.stars {
         let near = |spot: &(i64, i64)| (spot.0 - star.x).abs().max((spot.1 - star.y).abs()) < 512;
-        let seen = direction::direction(set.cx, set.cy, set.focal, star.x.into(), star.y.into())
+        let seen = direction::direction(set.cx, set.cy, set.lens, star.x.into(), star.y.into())
             .expect("the settings keep their rules");
         view.directions.push(seen.map(|component| component as i32));
         view.truth.push(spots.iter().position(near));
@@ -467,6 +472,7 @@ pub fn any_call(random: &Random, entry: Entry) -> Call {
         }
         Entry::Cosines => any_cosines(random),
         Entry::Turned => any_turned(random),
+        Entry::Lens => any_lens(random),
     };
     if random.chance(35) && !entry.faults().is_empty() {
         for _ in 0..random.pick(&[1, 1, 1, 2, 3]) {
@@ -519,11 +525,7 @@ fn any_direction(random: &Random) -> Call {
     call.cy = place(random);
     call.x = place(random);
     call.y = place(random);
-    call.focal = match random.below(4) {
-        0 => random.pick(&[16_384, 16_385, 4_194_303, 4_194_304]),
-        1 => random.between(16_384, 100_000),
-        _ => random.between(16_384, 4_194_304),
-    };
+    call.lens = plate_of(random, any_focal(random));
     call
 }
 
@@ -650,7 +652,7 @@ fn any_chain(random: &Random) -> Call {
             let places = [patch, sky::near(random, patch, 1_000), sky::near(random, patch, 1_000_000_000)];
             let stars: Vec<[i32; 3]> = (0..3 + random.below(6)).map(|_| random.pick(&places)).collect();
             call.catalogue = Buffer::of(&sky::catalogue(random, &stars));
-            call.focal = random.pick(&[4_194_304, 1_000_000]);
+            call.lens = Plate::of_focal(random.pick(&[4_194_304, 1_000_000]));
             call.tolerance = MOST_TOLERANCE;
         }
         // The sky in a mirror.

@@ -17,6 +17,7 @@ pub mod float;
 pub mod frame;
 pub mod gimbal;
 pub mod index;
+pub mod lens;
 pub mod listing;
 pub mod ranking;
 pub mod search;

@@ -25,7 +25,17 @@ extern "C" {
         out: *mut i64,
         out_len: usize,
     );
-    fn mnemathor_direction(cx: i64, cy: i64, f: i64, x: i64, y: i64, out: *mut i64, out_len: usize);
+    fn mnemathor_direction(
+        cx: i64,
+        cy: i64,
+        kind: u32,
+        first: f64,
+        second: f64,
+        x: i64,
+        y: i64,
+        out: *mut i64,
+        out_len: usize,
+    );
     fn mnemathor_catalogue(bytes: *const u8, bytes_len: usize, out: *mut i64, out_len: usize);
     fn mnemathor_ranking(
         directions: *const i32,
@@ -59,7 +69,9 @@ extern "C" {
         threshold: usize,
         cx: i64,
         cy: i64,
-        f: i64,
+        kind: u32,
+        first: f64,
+        second: f64,
         catalogue: *const u8,
         catalogue_len: usize,
         needed: usize,
@@ -111,7 +123,9 @@ extern "C" {
         threshold: usize,
         cx: i64,
         cy: i64,
-        f: i64,
+        kind: u32,
+        first: f64,
+        second: f64,
         catalogue: *const u8,
         catalogue_len: usize,
         index: *const u8,
@@ -132,7 +146,9 @@ extern "C" {
         threshold: usize,
         cx: i64,
         cy: i64,
-        f: i64,
+        kind: u32,
+        first: f64,
+        second: f64,
         catalogue: *const u8,
         catalogue_len: usize,
         needed: usize,
@@ -162,6 +178,7 @@ extern "C" {
         out: *mut i64,
         out_len: usize,
     );
+    fn mnemathor_lens(kind: u32, first: f64, second: f64, out: *mut i64, out_len: usize);
 }
 
 /// Makes the call with the buffers lent and this room for the numbers. All buffers are lent as memory that
@@ -169,6 +186,7 @@ extern "C" {
 pub fn run(call: &Call, lent: &mut Lent, out: &mut [i64]) {
     let (width, height, threshold) = (call.width as usize, call.height as usize, call.threshold as usize);
     let (row, column, needed) = (call.row as usize, call.column as usize, call.needed as usize);
+    let (kind, [first, second]) = (call.lens.kind, [call.lens.first, call.lens.second].map(f64::from_bits));
     let samples = (lent.samples.as_mut_ptr(), lent.samples.len());
     let directions = (lent.directions.as_mut_ptr(), lent.directions.len());
     let catalogue = (lent.catalogue.as_mut_ptr(), lent.catalogue.len());
@@ -190,7 +208,7 @@ pub fn run(call: &Call, lent: &mut Lent, out: &mut [i64]) {
             }
             Entry::List => mnemathor_list(samples.0, samples.1, width, height, threshold, out.0, out.1),
             Entry::Direction => {
-                mnemathor_direction(call.cx, call.cy, call.focal, call.x, call.y, out.0, out.1)
+                mnemathor_direction(call.cx, call.cy, kind, first, second, call.x, call.y, out.0, out.1)
             }
             Entry::Catalogue => mnemathor_catalogue(catalogue.0, catalogue.1, out.0, out.1),
             Entry::Ranking => mnemathor_ranking(
@@ -225,7 +243,9 @@ pub fn run(call: &Call, lent: &mut Lent, out: &mut [i64]) {
                 threshold,
                 call.cx,
                 call.cy,
-                call.focal,
+                kind,
+                first,
+                second,
                 catalogue.0,
                 catalogue.1,
                 needed,
@@ -263,7 +283,9 @@ pub fn run(call: &Call, lent: &mut Lent, out: &mut [i64]) {
                 threshold,
                 call.cx,
                 call.cy,
-                call.focal,
+                kind,
+                first,
+                second,
                 catalogue.0,
                 catalogue.1,
                 index.0,
@@ -284,7 +306,9 @@ pub fn run(call: &Call, lent: &mut Lent, out: &mut [i64]) {
                 threshold,
                 call.cx,
                 call.cy,
-                call.focal,
+                kind,
+                first,
+                second,
                 catalogue.0,
                 catalogue.1,
                 needed,
@@ -300,6 +324,7 @@ pub fn run(call: &Call, lent: &mut Lent, out: &mut [i64]) {
             Entry::Turned => {
                 mnemathor_turned(rows.0, rows.1, target.0, target.1, turned.0, turned.1, out.0, out.1)
             }
+            Entry::Lens => mnemathor_lens(kind, first, second, out.0, out.1),
         }
     }
 }

@@ -27,7 +27,7 @@ fn chain_listing(settings: &Settings, samples: &[u16], catalogue: &[u8]) -> Stri
                 solution.matrix.iter().map(|row| format!("{} {} {}\n", row[0], row[1], row[2])).collect();
             first_lines(&solution.list, &solution.assignment, catalogue) + &rows
         }
-        Err(refusal) if refusal.number <= 11 => refused(refusal),
+        Err(refusal) if !(12..=14).contains(&refusal.number) => refused(refusal),
         Err(refusal) => {
             let list = frame::list(samples, settings.width, settings.height, settings.threshold)
                 .expect("the chain accepted the frame");
@@ -54,7 +54,7 @@ fn first_lines(list: &List, assignment: &Assignment, catalogue: &[u8]) -> String
 /// The search's answer for a chain that ended at the attitude: its ranking stands in the room.
 fn assignment_found(settings: &Settings, list: &List, catalogue: &[u8], room: &[u16]) -> Assignment {
     let optics =
-        Optics::check(settings.cx, settings.cy, settings.focal).expect("the chain accepted the settings");
+        Optics::check(settings.cx, settings.cy, settings.lens).expect("the chain accepted the settings");
     let directions: Vec<i32> = list
         .stars
         .iter()

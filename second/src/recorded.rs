@@ -5,11 +5,13 @@ use crate::call::{Buffer, Call, Entry, Outcome, ENTRIES};
 use crate::damage::damage;
 use crate::float::Float;
 use crate::generate::*;
+use crate::lens::Plate;
 use crate::random::Random;
 use crate::search::Effort;
 use crate::sky::{self, record};
 
 mod gimbal;
+mod lens;
 
 /// A case whose search tries more stars than this is left out.
 const MOST_STARS_TRIED: u64 = 1_000_000;
@@ -48,6 +50,7 @@ pub fn calls() -> Vec<Call> {
             Entry::Burst => bursts(&random, &mut calls),
             Entry::Cosines => gimbal::matrices(&random, &mut calls),
             Entry::Turned => gimbal::targets(&random, &mut calls),
+            Entry::Lens => lens::plates(&random, &mut calls),
         }
     }
     calls
@@ -457,7 +460,7 @@ fn lists(random: &Random, calls: &mut Vec<Call>) {
 
 fn direction_call([cx, cy, focal, x, y]: [i64; 5]) -> Call {
     let mut call = Call::new(Entry::Direction);
-    (call.cx, call.cy, call.focal, call.x, call.y) = (cx, cy, focal, x, y);
+    (call.cx, call.cy, call.lens, call.x, call.y) = (cx, cy, Plate::of_focal(focal), x, y);
     call
 }
 
@@ -516,6 +519,7 @@ fn directions(random: &Random, calls: &mut Vec<Call>) {
     for _ in 0..600 {
         calls.push(any_call(random, Entry::Direction));
     }
+    lens::through(random, &direction_call(middle), calls);
 }
 
 // Catalogues.
@@ -1073,7 +1077,7 @@ fn document_chain() -> Call {
         set_pixel(&mut call, row, column, 100);
         set_pixel(&mut call, row, column + 1, 50);
     }
-    (call.cx, call.cy, call.focal) = (20_480, 15_360, 16_384);
+    (call.cx, call.cy, call.lens) = (20_480, 15_360, Plate::of_focal(16_384));
     let stars =
         [[-600_000_000, 0, 800_000_000], [600_000_000, 0, 800_000_000], [0, 600_000_000, 800_000_000]];
     let bytes: Vec<u8> =
@@ -1104,7 +1108,7 @@ fn crowded_scene(random: &Random) -> Call {
     let places = [patch, patch, sky::near(random, patch, 1_000), sky::near(random, patch, 1_000_000_000)];
     let stars: Vec<[i32; 3]> = (0..3 + random.below(5)).map(|_| random.pick(&places)).collect();
     call.catalogue = Buffer::of(&sky::catalogue(random, &stars));
-    call.focal = random.pick(&[4_194_304, 1_000_000]);
+    call.lens = Plate::of_focal(random.pick(&[4_194_304, 1_000_000]));
     call.tolerance = MOST_TOLERANCE;
     call
 }
@@ -1129,7 +1133,7 @@ fn chains(random: &Random, calls: &mut Vec<Call>) {
         call.cy = cy
     });
     vary(calls, &document, &[0, 16_383, 16_384, 16_385, 4_194_304, 4_194_305, i64::MAX], |call, focal| {
-        call.focal = focal
+        call.lens = Plate::of_focal(focal)
     });
     vary(calls, &document, &[0, 1, 100, 101, 4_095, 4_096], |call, threshold| call.threshold = threshold);
     vary(calls, &document, &[0, 16, 32, 47, 48, 49], |call, len| {
@@ -1161,7 +1165,7 @@ fn chains(random: &Random, calls: &mut Vec<Call>) {
     calls.push(scene(random, 1_024, 7, 5, 30));
     calls.push(scene(random, 512, 400, 8, 60));
     let mut full = scene(random, 1_024, 1_024, 8, 40);
-    full.focal = 300_000;
+    full.lens = Plate::of_focal(300_000);
     full.tolerance = MOST_TOLERANCE;
     calls.push(full);
 
@@ -1202,9 +1206,10 @@ fn chains(random: &Random, calls: &mut Vec<Call>) {
             calls.push(call);
         }
     }
-    let mut exchanged = document;
+    let mut exchanged = document.clone();
     exchanged.catalogue = mirrored_catalogue(&exchanged.catalogue);
     calls.push(exchanged);
+    lens::through(random, &document, calls);
 }
 
 // Reasons.
@@ -1541,6 +1546,7 @@ fn chains_by_index(random: &Random, calls: &mut Vec<Call>) {
         by_index(random, call)
     };
     damaged(random, Entry::ChainByIndex, 2, 10, crowded, calls);
+    lens::through(random, &document, calls);
 }
 
 // Bursts.
@@ -1564,7 +1570,7 @@ fn document_burst(frames: usize) -> Call {
 fn tiny_burst(random: &Random, frames: usize) -> Call {
     let mut call = dark_frame(Entry::Burst, 7, 7, 50);
     let document = document_chain();
-    (call.cx, call.cy, call.focal) = (document.cx, document.cy, document.focal);
+    (call.cx, call.cy, call.lens) = (document.cx, document.cy, document.lens);
     (call.catalogue, call.needed, call.room) = (document.catalogue, 3, document.room);
     call.samples = Buffer::repeat(49 * frames, &[0]);
     for k in 0..frames {
@@ -1650,4 +1656,5 @@ fn bursts(random: &Random, calls: &mut Vec<Call>) {
         burst_of(random, &first, 1 + random.below(4))
     };
     damaged(random, Entry::Burst, 6, 30, sound, calls);
+    lens::through(random, &document_burst(2), calls);
 }

@@ -52,13 +52,15 @@ unsafe extern "C" fn mnemathor_list(
 unsafe extern "C" fn mnemathor_direction(
     cx: i64,
     cy: i64,
-    f: i64,
+    kind: u32,
+    first: f64,
+    second: f64,
     x: i64,
     y: i64,
     out: *mut i64,
     out_len: usize,
 ) {
-    answer(out, out_len, || plain::direction(cx, cy, f, x, y));
+    answer(out, out_len, || plain::direction(cx, cy, plain::Plate { kind, first, second }, x, y));
 }
 
 #[no_mangle]
@@ -126,7 +128,9 @@ unsafe extern "C" fn mnemathor_chain(
     threshold: usize,
     cx: i64,
     cy: i64,
-    f: i64,
+    kind: u32,
+    first: f64,
+    second: f64,
     catalogue: *const u8,
     catalogue_len: usize,
     needed: usize,
@@ -136,11 +140,12 @@ unsafe extern "C" fn mnemathor_chain(
     out: *mut i64,
     out_len: usize,
 ) {
+    let lens = plain::Plate { kind, first, second };
     let samples = from_raw_parts(samples, samples_len);
     let catalogue = from_raw_parts(catalogue, catalogue_len);
     let room = from_raw_parts_mut(room, room_len);
     answer(out, out_len, || {
-        plain::chain(samples, width, height, threshold, cx, cy, f, catalogue, needed, tolerance, room)
+        plain::chain(samples, width, height, threshold, cx, cy, lens, catalogue, needed, tolerance, room)
     });
 }
 
@@ -208,7 +213,9 @@ unsafe extern "C" fn mnemathor_chain_by_index(
     threshold: usize,
     cx: i64,
     cy: i64,
-    f: i64,
+    kind: u32,
+    first: f64,
+    second: f64,
     catalogue: *const u8,
     catalogue_len: usize,
     index: *const u8,
@@ -221,13 +228,14 @@ unsafe extern "C" fn mnemathor_chain_by_index(
     out: *mut i64,
     out_len: usize,
 ) {
+    let lens = plain::Plate { kind, first, second };
     let samples = from_raw_parts(samples, samples_len);
     let catalogue = from_raw_parts(catalogue, catalogue_len);
     let index = plain::Index { bytes: from_raw_parts(index, index_len), floor };
     let room = from_raw_parts_mut(room, room_len);
     answer(out, out_len, || {
         plain::chain_by_index(
-            samples, width, height, threshold, cx, cy, f, catalogue, index, needed, tolerance, room,
+            samples, width, height, threshold, cx, cy, lens, catalogue, index, needed, tolerance, room,
         )
     });
 }
@@ -241,7 +249,9 @@ unsafe extern "C" fn mnemathor_burst(
     threshold: usize,
     cx: i64,
     cy: i64,
-    f: i64,
+    kind: u32,
+    first: f64,
+    second: f64,
     catalogue: *const u8,
     catalogue_len: usize,
     needed: usize,
@@ -253,13 +263,14 @@ unsafe extern "C" fn mnemathor_burst(
     out: *mut i64,
     out_len: usize,
 ) {
+    let lens = plain::Plate { kind, first, second };
     let samples = from_raw_parts(samples, samples_len);
     let catalogue = from_raw_parts(catalogue, catalogue_len);
     let room = from_raw_parts_mut(room, room_len);
     let records = from_raw_parts_mut(records, records_len);
     answer(out, out_len, || {
         plain::burst(
-            samples, width, height, threshold, cx, cy, f, catalogue, needed, tolerance, room, records,
+            samples, width, height, threshold, cx, cy, lens, catalogue, needed, tolerance, room, records,
         )
     });
 }
@@ -297,4 +308,9 @@ unsafe extern "C" fn mnemathor_turned(
         *turned = plain::turned(rows, target);
         answer(out, out_len, || Ok(()));
     }
+}
+
+#[no_mangle]
+unsafe extern "C" fn mnemathor_lens(kind: u32, first: f64, second: f64, out: *mut i64, out_len: usize) {
+    answer(out, out_len, || plain::lens(plain::Plate { kind, first, second }).map(|focal| focal as usize));
 }

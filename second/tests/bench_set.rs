@@ -1,6 +1,7 @@
 //! The bench set of the scope document, A to O, by the wide and by the plain implementation.
 
 use second::answer::{Assignment, Centroid, Kind, Refusal};
+use second::lens::{Plate, PIXELS};
 use second::sky::record;
 use second::{attitude, direction, frame, plain, search};
 
@@ -78,8 +79,9 @@ fn f_all_full() {
 #[test]
 fn g_and_h_directions() {
     for (cx, expected) in [(0, [0, 0, 1_000_000_000]), (12_288, [-600_000_000, 0, 800_000_000])] {
-        assert_eq!(direction::direction(cx, 0, 16_384, 0, 0), Ok(expected));
-        assert_eq!(plain::direction(cx as i64, 0, 16_384, 0, 0), Ok(expected));
+        assert_eq!(direction::direction(cx, 0, Plate::of_focal(16_384), 0, 0), Ok(expected));
+        let lens = plain::Plate { kind: PIXELS, first: 64.0, second: 0.0 };
+        assert_eq!(plain::direction(cx as i64, 0, lens, 0, 0), Ok(expected));
     }
 }
 

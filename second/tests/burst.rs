@@ -5,6 +5,7 @@ use second::burst::burst;
 use second::call::{Call, Entry};
 use second::chain::{chain, Settings};
 use second::generate::{any_call, burst_of};
+use second::lens::Plate;
 use second::random::Random;
 use second::search::Effort;
 use second::sky::record;
@@ -19,7 +20,7 @@ fn settings() -> Settings {
         threshold: 50,
         cx: 20_480,
         cy: 15_360,
-        focal: 16_384,
+        lens: Plate::of_focal(16_384),
         needed: 3,
         tolerance: 0,
     }
@@ -97,7 +98,8 @@ fn a_fault_of_the_settings_stands_in_every_record() {
     let stars = catalogue();
     let repeated = [&stars[..], &stars[..16]].concat();
     assert_eq!(given(&|set| set.threshold = 0, &stars, 4_096), (3, 0));
-    assert_eq!(given(&|set| set.focal = 0, &stars, 4_096), (5, 0));
+    assert_eq!(given(&|set| set.lens = Plate::of_focal(0), &stars, 4_096), (19, 0));
+    assert_eq!(given(&|set| set.cy = -1, &stars, 4_096), (5, 0));
     assert_eq!(given(&|_| (), &stars[1..], 4_096), (6, 0));
     assert_eq!(given(&|_| (), &repeated, 4_096), (7, 3));
     assert_eq!(given(&|set| set.needed = 2, &stars, 4_096), (9, 0));
@@ -139,7 +141,7 @@ fn refusals_of_the_whole_burst_write_nothing() {
 #[test]
 fn the_burst_is_the_single_calls_in_order() {
     let random = Random::new(31);
-    let mut given = [0; 16];
+    let mut given = [0; 20];
     for _ in 0..150 {
         let first = any_call(&random, Entry::Chain);
         if first.width > 1_024
@@ -161,7 +163,7 @@ fn the_burst_is_the_single_calls_in_order() {
 }
 
 /// Makes the single calls and compares their records, the room they leave and the rest of the records' room.
-fn single_calls(call: &Call, room: &[u16], bytes: &[u8], given: &mut [usize; 16]) {
+fn single_calls(call: &Call, room: &[u16], bytes: &[u8], given: &mut [usize; 20]) {
     let lent = call.lend();
     let mut single_room = lent.room;
     let mut records = Vec::new();

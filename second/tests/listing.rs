@@ -199,7 +199,20 @@ fn earlier_refusals_print_one_line() {
     );
     assert_eq!(refused(&|f| f.settings[5] = 0), "refused 3 0\n");
     assert_eq!(refused(&|f| f.set_sample(77, 4_096)), "refused 4 77\n");
+    for focal in [0, 1, 16_383, 4_194_305, u32::MAX] {
+        let optics = [20_480, 15_360, focal];
+        assert_eq!(refused(&|f| f.settings = settings(160, 120, 50, 3, optics, 0)), "refused 19 0\n");
+    }
     assert_eq!(refused(&|f| f.settings[8] = 255), "refused 5 0\n");
+    // The lens after the frame and before the centre.
+    assert_eq!(refused(&|f| f.settings[8..20].fill(255)), "refused 19 0\n");
+    assert_eq!(
+        refused(&|f| {
+            f.settings[8..20].fill(255);
+            f.set_sample(5, 4_096);
+        }),
+        "refused 4 5\n"
+    );
     assert_eq!(refused(&|f| f.catalogue.clear()), "refused 6 0\n");
     assert_eq!(refused(&|f| f.catalogue[35] = 22), "refused 7 2\n");
     assert_eq!(refused(&|f| f.settings[7] = 2), "refused 9 0\n");

@@ -75,7 +75,7 @@ impl Reader<'_> {
     fn check_buffers(&mut self, entry: Entry, lent: &Lent) {
         match entry {
             Entry::Verdict | Entry::List | Entry::Reason => assert_eq!(self.samples(), lent.samples),
-            Entry::Direction => {}
+            Entry::Direction | Entry::Lens => {}
             Entry::Catalogue => assert_eq!(self.catalogue(), lent.catalogue),
             Entry::Ranking => {
                 assert_eq!(self.directions(), lent.directions);
@@ -129,7 +129,7 @@ impl Reader<'_> {
 }
 
 fn scalar_count(entry: Entry) -> usize {
-    [5, 3, 5, 0, 1, 2, 0, 8, 5, 1, 2, 9, 8, 0, 0][entry.index()]
+    [5, 3, 7, 0, 1, 2, 0, 10, 5, 1, 2, 11, 10, 0, 0, 3][entry.index()]
 }
 
 #[test]
@@ -194,14 +194,14 @@ fn calls_by_an_index_give_what_plain_calls_give() {
 
 #[test]
 fn bursts_have_every_refusal_of_a_frame() {
-    let mut given = [0; 16];
+    let mut given = [0; 20];
     for case in cases().iter().filter(|case| case.call.entry == Entry::Burst) {
         let records = case.outcome.out[2] as usize;
         for record in case.outcome.lent.bytes[..80 * records].chunks(80) {
             given[usize::from(record[3])] += 1;
         }
     }
-    for number in [0, 3, 4, 5, 6, 7, 9, 10, 12, 13, 14] {
+    for number in [0, 3, 4, 5, 6, 7, 9, 10, 12, 13, 14, 19] {
         assert!(given[number] >= 10, "{given:?}");
     }
 }

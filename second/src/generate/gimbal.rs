@@ -54,7 +54,7 @@ fn with_any_sign(random: &Random, bits: Float) -> Float {
 }
 
 /// Between 2^-8 and 2^8.
-fn ordinary(random: &Random) -> Float {
+pub(super) fn ordinary(random: &Random) -> Float {
     let exponent = (1_015 + random.below(16)) as u64;
     exponent << 52 | random.next() >> 12
 }

@@ -1,6 +1,6 @@
 //! A burst: what does not change from frame to frame is tested once.
 
-use super::{check_frame, Sky, SIDES};
+use super::{check_frame, Plate, Sky, SIDES};
 use crate::answer::{Refusal, Solution};
 
 const MOST_FRAMES: usize = 64;
@@ -14,7 +14,7 @@ pub fn burst(
     threshold: usize,
     cx: i64,
     cy: i64,
-    focal: i64,
+    lens: Plate,
     catalogue: &[u8],
     needed: usize,
     tolerance: u64,
@@ -32,7 +32,7 @@ pub fn burst(
     if records.len() < RECORD_BYTES * frames {
         return Err(Refusal::new(18));
     }
-    let sky = Sky::check(cx, cy, focal, catalogue, None, needed, tolerance, room.len());
+    let sky = Sky::check(cx, cy, lens, catalogue, None, needed, tolerance, room.len());
     for (frame, record) in samples.chunks_exact(size).zip(records.chunks_exact_mut(RECORD_BYTES)) {
         let answer = check_frame(frame, width, height, threshold)
             .and_then(|frame| sky.as_ref().map_err(|refusal| *refusal)?.solve(&frame, room));

@@ -61,7 +61,7 @@ fn given_directions(ranking: &Call) -> Vec<[i128; 3]> {
 fn seen_directions(chain: &Call) -> Vec<[i128; 3]> {
     let set = chain.settings();
     let list = frame::list(&chain.samples.values(), set.width, set.height, set.threshold);
-    let seen = |x: i64, y: i64| direction(set.cx, set.cy, set.focal, x.into(), y.into());
+    let seen = |x: i64, y: i64| direction(set.cx, set.cy, set.lens, x.into(), y.into());
     let stars = list.expect("the chain is solved").stars;
     stars.iter().map(|star| seen(star.x, star.y).expect("the chain is solved").map(i128::from)).collect()
 }
