@@ -1,5 +1,5 @@
 -- The whole listing of three files, accepted or refused. Assumes nothing.
-use mathlib.Core.Bool.{cond}
+use mathlib.Core.Bool.{Bool, true, cond}
 use mathlib.Core.Path.{_≡_}
 use mathlib.Core.List.{List, _++_}
 use Prim.Native.Nat.{ℕ}
@@ -38,10 +38,14 @@ found c = ourIdentification (listed c .report) (c .catalogue) (c .settings) .sta
 unfoldable pub acceptedText : List ℕ → Tracked → List ℕ
 acceptedText catalogue t = reportLines (t .report) (named catalogue (t .stars)) ++ matrixLines (t .matrix)
 
--- 12, 13 and 14 come after the frame's list was accepted, and show it first; with 14 the search too was accepted. An earlier refusal stands alone.
+-- all refusals but 12, 13 and 14 come before the frame's list was accepted, the lens's too, whose number is higher
+abbrev pub early : ℕ → Bool
+early n = cond (ltb n number.few) true (ltb number.close n)
+
+-- 12, 13 and 14 show the list first; with 14 the search too was accepted. An earlier refusal stands alone.
 unfoldable pub refusedText : Call → Refusal → List ℕ
 refusedText c r =
-    cond (ltb (r .number) number.few) (refusalLine r)
+    cond (early (r .number)) (refusalLine r)
     (reportLines (listed c .report) (cond (eqb (r .number) number.close) (named (c .catalogue) (found c)) nobody) ++ refusalLine r)
 
 unfoldable pub answerText : Call → List ℕ

@@ -9,8 +9,8 @@ ghost use mathlib.Core.Path.{_≡_};
 ghost use Prim.Native.Nat.{_≤_};
 ghost use Rattle.text.specs.Room.{roomWith, lengthIn};
 ghost use Rattle.text.specs.Written.{Wrote};
-ghost use Rattle.listing.specs.Listing.{Refuses, Finds, chainOn, samplesIn, acceptedText, refusedText, answerText, textOf, listingText, roomSize};
-ghost use Rattle.listing.specs.Listing.{found as wordsFound};
+ghost use Rattle.listing.specs.Listing.{early, Refuses, Finds, chainOn, samplesIn, acceptedText, refusedText, answerText, textOf, listingText, roomSize};
+ghost use Rattle.listing.specs.Listing.{early, found as wordsFound};
 
 // The bytes that a room for any listing has.
 pub const ROOM: usize = 2048;
@@ -32,7 +32,17 @@ fn found(
     names.stars
 }
 
-// The lines of a refused call. From 12 on the frame's list was accepted and stands before the refusal; 14 has names.
+// Whether a refusal came before the frame's list was accepted: all but 12, 13 and 14 do.
+fn is_early(number: u32) -> bool
+    ensures { λ r. ⌜ r ≡ early number ⌝ }
+{
+    if number < refusal::FEW {
+        return true;
+    }
+    refusal::CLOSE < number
+}
+
+// The lines of a refused call. With 12, 13 and 14 the frame's list was accepted and stands before the refusal; 14 has names.
 fn refused(
     refusal: Refusal,
     samples: &[u16],
@@ -45,7 +55,7 @@ fn refused(
     ensures { λ r. ⌜ Wrote (now (room .entry)) 0 (refusedText (chainOn (now (samples .entry)) (now (catalogue .entry)) settings) refusal) (now (room .exit)) r ⌝ }
     ensures { λ r. ⌜ r ≤ 972 ⌝ }
 {
-    if refusal.number < refusal::FEW {
+    if is_early(refusal.number) {
         return text::refused(room, 0, refusal);
     }
     let listing = frame::list(samples, settings.width, settings.height, settings.threshold);
