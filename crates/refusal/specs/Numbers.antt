@@ -59,6 +59,9 @@ recordsRoom = 18
 abbrev pub lens : ℕ
 lens = 19
 
+abbrev pub changesRoom : ℕ
+changesRoom = 20
+
 abbrev pub entry : ℕ
 entry = 23
 
@@ -67,4 +70,4 @@ abbrev pub inOrder : List ℕ
 inOrder =
     size ∷ samples ∷ threshold ∷ sample ∷ settings ∷ catalogue ∷ recordRule ∷ directions ∷
     demand ∷ room ∷ ranking ∷ few ∷ noFit ∷ close ∷ pixel ∷ indexRoom ∷
-    index ∷ recordsRoom ∷ lens ∷ entry ∷ []
+    index ∷ recordsRoom ∷ lens ∷ changesRoom ∷ entry ∷ []

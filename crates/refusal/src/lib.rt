@@ -43,11 +43,13 @@ pub const INDEX: u32 = 17;
 pub const RECORDS_ROOM: u32 = 18;
 // A number that the lens plate states is not above zero, or the focal length that they make is out of range.
 pub const LENS: u32 = 19;
+// The room lent for the list of changes is shorter than the list.
+pub const CHANGES_ROOM: u32 = 20;
 // A matrix entry handed in is beyond 8 * 10^9.
 pub const ENTRY: u32 = 23;
 
 // All of them in the table's order, each the number that specs/Numbers has under its name.
-pub fn numbers_in_order() -> [u32; 20]
+pub fn numbers_in_order() -> [u32; 21]
     ensures { λ r. ⌜ r ≡ inOrder ⌝ }
 {
     [
@@ -70,6 +72,7 @@ pub fn numbers_in_order() -> [u32; 20]
         INDEX,
         RECORDS_ROOM,
         LENS,
+        CHANGES_ROOM,
         ENTRY,
     ]
 }
