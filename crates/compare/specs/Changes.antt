@@ -4,7 +4,7 @@ use mathlib.Core.Bool.{Bool, cond, not}
 use mathlib.Core.List.{List, [], _∷_, _++_}
 use Prim.Native.Nat.{ℕ, _+_, _*_, _-_, _/_}
 use lib.Dec.{eqb, ltb}
-use Rattle.counting.specs.First.{first}
+use Rattle.counting.specs.First.{first as firstWhere}
 use Rattle.sorting.specs.Order.{ordered}
 use Rattle.words.specs.Number.{numberAt}
 use Rattle.words.specs.Bytes.{bytesOf}
@@ -14,7 +14,7 @@ use Rattle.catalogue.specs.Format.{recordSize, recordsIn, identityOf}
 
 -- the first record that has an identity, or the number of records where none has it
 unfoldable pub placeOf : List ℕ → ℕ → ℕ
-placeOf bytes identity = first (λ i. eqb (identityOf bytes i) identity) (recordsIn bytes)
+placeOf bytes identity = firstWhere (λ i. eqb (identityOf bytes i) identity) (recordsIn bytes)
 
 -- whether a record has it
 abbrev pub has : List ℕ → ℕ → Bool
@@ -30,27 +30,27 @@ fieldOf bytes i k = numberAt bytes (recordSize * i + (4 + 4 * k)) 4
 
 -- whether one of them is another in record i of the one than in record j of the other
 unfoldable pub differ : List ℕ → ℕ → List ℕ → ℕ → Bool
-differ one i other j = ltb (first (λ k. not (eqb (fieldOf one i k) (fieldOf other j k))) fields) fields
+differ first i second j = ltb (firstWhere (λ k. not (eqb (fieldOf first i k) (fieldOf second j k))) fields) fields
 
 -- what the list says of an identity: 1, only the first has it; 2, only the second; 3, both, with different words. 0, it is not listed
 unfoldable pub kindOf : List ℕ → List ℕ → ℕ → ℕ
-kindOf one other identity =
-    cond (has one identity)
-    (cond (has other identity) (cond (differ one (placeOf one identity) other (placeOf other identity)) 3 0) 1)
-    (cond (has other identity) 2 0)
+kindOf first second identity =
+    cond (has first identity)
+    (cond (has second identity) (cond (differ first (placeOf first identity) second (placeOf second identity)) 3 0) 1)
+    (cond (has second identity) 2 0)
 
 -- ---- the list
 
 abbrev pub isListed : List ℕ → List ℕ → ℕ → Bool
-isListed one other identity = not (eqb (kindOf one other identity) 0)
+isListed first second identity = not (eqb (kindOf first second identity) 0)
 
 -- the identities below n that are listed, rising: no key tells them apart
 abbrev pub listedBelow : List ℕ → List ℕ → ℕ → List ℕ
-listedBelow one other n = ordered (isListed one other) (λ _. 0) n
+listedBelow first second n = ordered (isListed first second) (λ _. 0) n
 
 -- all of them: an identity has four bytes
 unfoldable pub listed : List ℕ → List ℕ → List ℕ
-listed one other = listedBelow one other 4294967296
+listed first second = listedBelow first second 4294967296
 
 -- a record of the list, eight bytes: the identity, and what is said of it
 unfoldable pub recordOf : ℕ → ℕ → List ℕ
@@ -63,4 +63,4 @@ encoded kind (identity ∷ rest) = recordOf identity (kind identity) ++ encoded 
 
 -- the list's bytes
 unfoldable pub changesOf : List ℕ → List ℕ → List ℕ
-changesOf one other = encoded (kindOf one other) (listed one other)
+changesOf first second = encoded (kindOf first second) (listed first second)

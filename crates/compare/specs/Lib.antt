@@ -1,0 +1,8 @@
+-- The definitions that the contracts of `compare` cite, and their laws.
+pub mod Changes
+pub mod DifferLaws
+pub mod Step
+pub mod Cut
+pub mod StepLaws
+pub mod Walk
+pub mod Written
