@@ -6,3 +6,5 @@ pub mod Cut
 pub mod StepLaws
 pub mod Walk
 pub mod Written
+pub mod Compare
+pub mod CompareSteps

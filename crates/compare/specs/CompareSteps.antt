@@ -1,0 +1,72 @@
+-- What comparing two catalogues gives, one row at a time, as the code meets them. Assumes nothing.
+use mathlib.Core.Path.{_≡_, refl, sym, ap, _∙_}
+use mathlib.Core.List.{List, [], _∷_, _++_, append-assoc}
+use Prim.Native.Nat.{ℕ, _*_, _≤_, _<_}
+use native.Mathlib.Omega.{arith}
+use borrow.Author.Tests.{lt-ltb, le-ltb}
+use lib.ListN.{length}
+use Rattle.refusal.specs.declared.Outcome.{Outcome}
+use Rattle.refusal.specs.declared.Outcome.the-variants.{Accepted}
+use Rattle.refusal.specs.declared.Refusal.{Refusal}
+use Rattle.refusal.specs.Numbers as number
+use Rattle.refusal.specs.Table.{refusalOf, row, lowest, answered}
+use Rattle.refusal.specs.Laws.{lowest-append, lowest-here, silent-accepted, Silent, otherwise-accepted}
+use Rattle.refusal.specs.AnswerLaws.{answerBy, answered-by}
+use Rattle.catalogue.specs.Check as catalogue
+use Rattle.catalogue.specs.CheckLaws.{valid-accepted, accepted-valid}
+use Rattle.catalogue.specs.Valid.{Valid}
+use Rattle.compare.specs.declared.Compared.{Compared}
+use Rattle.compare.specs.declared.Compared.the-variants.{Refused, Records}
+use Rattle.compare.specs.Changes.{kindOf, listed, changesOf}
+use Rattle.compare.specs.Written.{encoded-length, atFront}
+use Rattle.compare.specs.Compare.{roomShort, cataloguesRefused, refusalsOf, comparedOf, roomAfter, answerOf, answerFor}
+
+module _ (first second : List ℕ) where
+  -- eight bytes a record
+  pub changes-length : length (changesOf first second) ≡ 8 * length (listed first second)
+  unfolding changesOf
+  changes-length = encoded-length (kindOf first second) (listed first second)
+
+  -- ---- the two catalogues
+
+  pub first-refused : (r : Refusal) → lowest (catalogue.refusalsOf first) ≡ Outcome.Refused r → lowest (cataloguesRefused first second) ≡ Outcome.Refused r
+  first-refused r e = lowest-append (catalogue.refusalsOf first) (catalogue.refusalsOf second) ∙ rw e
+
+  pub then-second : Valid first → {o : Outcome} → lowest (catalogue.refusalsOf second) ≡ o → lowest (cataloguesRefused first second) ≡ o
+  then-second v e = lowest-append (catalogue.refusalsOf first) (catalogue.refusalsOf second) ∙ rw (valid-accepted first v) e
+
+  pub both-valid : lowest (cataloguesRefused first second) ≡ Accepted → Valid first × Valid second
+  both-valid e =
+      let p = otherwise-accepted _ _ (sym (lowest-append (catalogue.refusalsOf first) (catalogue.refusalsOf second)) ∙ e) in
+      (accepted-valid first (p .0), accepted-valid second (p .1))
+
+  -- ---- the call
+
+  module _ (size : ℕ) where
+    pub compared : {o : Outcome} → lowest (refusalsOf first second size) ≡ o → comparedOf first second size ≡ answered Refused (Records (length (listed first second))) o
+    unfolding comparedOf
+    compared e = ap (λ (o : Outcome). answered Refused (Records (length (listed first second))) o) e
+
+    -- in the documents' terms
+    pub answers : answerOf (comparedOf first second size) ≡ answerFor first second size
+    unfolding comparedOf refusalsOf catalogue.refusalsOf answerBy
+    answers = answered-by Refused (Records (length (listed first second))) answerOf _ (λ r. refl) refl (refusalsOf first second size)
+
+    rest : {o : Outcome} → lowest (cataloguesRefused first second) ≡ o → lowest (refusalsOf first second size) ≡ answered Outcome.Refused (lowest (row (roomShort first second size) number.changesRoom ∷ [])) o
+    unfolding refusalsOf
+    rest e = lowest-append (cataloguesRefused first second) (row (roomShort first second size) number.changesRoom ∷ []) ∙ rw e
+
+    pub refused : (r : Refusal) → lowest (cataloguesRefused first second) ≡ Outcome.Refused r → lowest (refusalsOf first second size) ≡ Outcome.Refused r
+    refused r e = rest e
+
+    module _ (e : lowest (cataloguesRefused first second) ≡ Accepted) where
+      pub too-short : size < 8 * length (listed first second) → lowest (refusalsOf first second size) ≡ refusalOf number.changesRoom 0
+      too-short h = rest e ∙ lowest-here _ _ (lt-ltb size (length (changesOf first second)) (omega (arith, changes-length)))
+
+      pub long-enough : 8 * length (listed first second) ≤ size → lowest (refusalsOf first second size) ≡ Accepted
+      unfolding Silent
+      long-enough h = rest e ∙ silent-accepted _ (le-ltb size (length (changesOf first second)) (omega (arith, changes-length)), tt)
+
+  pub room-after : (room : List ℕ) {o : Outcome} → lowest (refusalsOf first second (length room)) ≡ o → roomAfter first second room ≡ answered (λ _. room) (atFront (changesOf first second) room) o
+  unfolding roomAfter
+  room-after room e = ap (λ (o : Outcome). answered (λ _. room) (atFront (changesOf first second) room) o) e
