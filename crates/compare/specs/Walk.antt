@@ -14,46 +14,8 @@ use Rattle.compare.specs.declared.step.Step.{Step}
 use Rattle.compare.specs.Changes.{has, kindOf, isListed, listedBelow, listed}
 use Rattle.compare.specs.Step.{stepOf}
 use Rattle.compare.specs.Cut.{Rises, Cut, cut-start, next-behind, cut-none}
+use Rattle.compare.specs.Below.{below-next, below-skip, below-more}
 use Rattle.compare.specs.StepLaws.{Stepped, stepped, kind-none}
-
--- ---- the numbers that pass a test, rising
-
-module _ (test : ℕ → Bool) where
-  -- where no key tells numbers apart, one that is put stands last
-  put-last : (s : ℕ) (xs : List ℕ) → put (λ _. 0) s xs ≡ xs ++ (s ∷ [])
-  unfolding put
-  put-last s [] = refl
-  put-last s (x ∷ xs) = ap (λ (l : List ℕ). x ∷ l) (put-last s xs)
-
-  pub below-next : (n : ℕ) → ordered test (λ _. 0) (suc n) ≡ ordered test (λ _. 0) n ++ pick (test n) (n ∷ []) []
-  unfolding ordered
-  below-next n = by (test n)
-    where
-      by : (t : Bool) → pick t (put (λ _. 0) n (ordered test (λ _. 0) n)) (ordered test (λ _. 0) n) ≡ ordered test (λ _. 0) n ++ pick t (n ∷ []) []
-      by true = put-last n (ordered test (λ _. 0) n)
-      by false = sym (append-nil (ordered test (λ _. 0) n))
-
-  -- numbers of which none passes add nothing
-  pub below-skip : (b n : ℕ) → b ≤ n → ((x : ℕ) → b ≤ x → x < n → test x ≡ false) → ordered test (λ _. 0) n ≡ ordered test (λ _. 0) b
-  below-skip b zero h f = let e : 0 ≡ b = omega arith in ap (ordered test (λ _. 0)) e
-  below-skip b (suc n) h f = go (ℕ-discrete b (suc n)) (λ l. below-skip b n l (λ x p q. f x p (omega arith)))
-    where
-      go : Dec (b ≡ suc n) → (b ≤ n → ordered test (λ _. 0) n ≡ ordered test (λ _. 0) b) → ordered test (λ _. 0) (suc n) ≡ ordered test (λ _. 0) b
-      go (yes e) g = ap (ordered test (λ _. 0)) (sym e)
-      go (no d) g =
-          below-next n
-          ∙ ap (λ (t : Bool). ordered test (λ _. 0) n ++ pick t (n ∷ []) []) (f n (omega arith) (omega arith))
-          ∙ append-nil (ordered test (λ _. 0) n)
-          ∙ g (omega arith)
-
-  -- and a longer list has no fewer
-  pub below-more : (b n : ℕ) → b ≤ n → length (ordered test (λ _. 0) b) ≤ length (ordered test (λ _. 0) n)
-  below-more b zero h = let e : b ≡ 0 = omega arith in rw e (omega arith)
-  below-more b (suc n) h = go (ℕ-discrete b (suc n)) (λ l. below-more b n l)
-    where
-      go : Dec (b ≡ suc n) → (b ≤ n → length (ordered test (λ _. 0) b) ≤ length (ordered test (λ _. 0) n)) → length (ordered test (λ _. 0) b) ≤ length (ordered test (λ _. 0) (suc n))
-      go (yes e) g = rw e (omega arith)
-      go (no d) g = omega (arith, g (omega arith), ap length (below-next n), length-append (ordered test (λ _. 0) n) (pick (test n) (n ∷ []) []))
 
 -- ---- one step
 
