@@ -12,7 +12,7 @@ use Rattle.catalogue.specs.Check.{lengthOk, recordBroken, brokenOf}
 use Rattle.catalogue.specs.Check as catalogue
 use Rattle.compare.specs.declared.Compared.{Compared}
 use Rattle.compare.specs.declared.Compared.the-variants.{Refused, Records}
-use Rattle.compare.specs.Changes.{listed, changesOf}
+use Rattle.changes.specs.Changes.{listed, changesOf}
 use Rattle.compare.specs.Written.{atFront}
 
 -- a room of so many bytes is shorter than the list

@@ -1,6 +1,6 @@
 -- What comparing two catalogues gives, one row at a time, as the code meets them. Assumes nothing.
 use mathlib.Core.Path.{_≡_, refl, sym, ap, _∙_}
-use mathlib.Core.List.{List, [], _∷_, _++_, append-assoc}
+use mathlib.Core.List.{List, [], _∷_}
 use Prim.Native.Nat.{ℕ, _*_, _≤_, _<_}
 use native.Mathlib.Omega.{arith}
 use borrow.Author.Tests.{lt-ltb, le-ltb}
@@ -15,18 +15,13 @@ use Rattle.refusal.specs.AnswerLaws.{answerBy, answered-by}
 use Rattle.catalogue.specs.Check as catalogue
 use Rattle.catalogue.specs.CheckLaws.{valid-accepted, accepted-valid}
 use Rattle.catalogue.specs.Valid.{Valid}
-use Rattle.compare.specs.declared.Compared.{Compared}
 use Rattle.compare.specs.declared.Compared.the-variants.{Refused, Records}
-use Rattle.compare.specs.Changes.{kindOf, listed, changesOf}
-use Rattle.compare.specs.Written.{encoded-length, atFront}
+use Rattle.changes.specs.Changes.{listed, changesOf}
+use Rattle.changes.specs.Encoded.{changes-length}
+use Rattle.compare.specs.Written.{atFront}
 use Rattle.compare.specs.Compare.{roomShort, cataloguesRefused, refusalsOf, comparedOf, roomAfter, answerOf, answerFor}
 
 module _ (first second : List ℕ) where
-  -- eight bytes a record
-  pub changes-length : length (changesOf first second) ≡ 8 * length (listed first second)
-  unfolding changesOf
-  changes-length = encoded-length (kindOf first second) (listed first second)
-
   -- ---- the two catalogues
 
   pub first-refused : (r : Refusal) → lowest (catalogue.refusalsOf first) ≡ Outcome.Refused r → lowest (cataloguesRefused first second) ≡ Outcome.Refused r
@@ -61,11 +56,11 @@ module _ (first second : List ℕ) where
 
     module _ (e : lowest (cataloguesRefused first second) ≡ Accepted) where
       pub too-short : size < 8 * length (listed first second) → lowest (refusalsOf first second size) ≡ refusalOf number.changesRoom 0
-      too-short h = rest e ∙ lowest-here _ _ (lt-ltb size (length (changesOf first second)) (omega (arith, changes-length)))
+      too-short h = rest e ∙ lowest-here _ _ (lt-ltb size (length (changesOf first second)) (omega (arith, changes-length first second)))
 
       pub long-enough : 8 * length (listed first second) ≤ size → lowest (refusalsOf first second size) ≡ Accepted
       unfolding Silent
-      long-enough h = rest e ∙ silent-accepted _ (le-ltb size (length (changesOf first second)) (omega (arith, changes-length)), tt)
+      long-enough h = rest e ∙ silent-accepted _ (le-ltb size (length (changesOf first second)) (omega (arith, changes-length first second)), tt)
 
   pub room-after : (room : List ℕ) {o : Outcome} → lowest (refusalsOf first second (length room)) ≡ o → roomAfter first second room ≡ answered (λ _. room) (atFront (changesOf first second) room) o
   unfolding roomAfter

@@ -1,29 +1,16 @@
 -- A catalogue cut at an identity: so many records are below it, and all others are not. Assumes nothing.
 use mathlib.Core.Bool.{true, false}
-use mathlib.Core.Path.{_≡_, refl, sym, ap, _∙_}
+use mathlib.Core.Path.{_≡_, sym, ap, _∙_}
 use mathlib.Core.List.{List}
-use Prim.Native.Nat.{ℕ, suc, _+_, _*_, _≤_, _<_}
+use Prim.Native.Nat.{ℕ, suc, _+_, _≤_, _<_}
 use native.Mathlib.Decide.{decLt, ℕ-discrete}
-use native.Mathlib.Nat.{le-refl, lt-irrefl, not-suc-le-zero}
+use native.Mathlib.Nat.{le-refl, not-suc-le-zero}
 use native.Mathlib.Omega.{arith}
-use borrow.Author.Tests.{lt-ltb, le-ltb, ltb-true, eq-eqb, ne-eqb, eqb-true}
-use lib.Dec.{eqb, ltb}
-use lib.ListN.{getD}
-use Rattle.counting.specs.First.{First, first-is, first-of}
-use Rattle.words.specs.NumberLaws.{number-most}
-use Rattle.catalogue.specs.Format.{recordSize, recordsIn, identityOf}
-use Rattle.catalogue.specs.Valid.{Valid}
-use Rattle.compare.specs.Changes.{placeOf, has}
+use borrow.Author.Tests.{lt-ltb, le-ltb}
+use Rattle.catalogue.specs.Format.{recordsIn, identityOf}
+use Rattle.changes.specs.Changes.{placeOf, has}
+use Rattle.changes.specs.Places.{Rises, place-is, place-none, place-has}
 use Rattle.compare.specs.Step.{nextOf}
-
--- what the walk asks of a catalogue: identities of four bytes that rise
-pub record Rises (bytes : List ℕ) : Type 0 where
-  pub narrow : (i : ℕ) → identityOf bytes i < 4294967296
-  pub rising : (i j : ℕ) → i < j → j < recordsIn bytes → identityOf bytes i < identityOf bytes j
-
-pub valid-rises : {bytes : List ℕ} → ((k : ℕ) → getD bytes k 0 < 256) → Valid bytes → Rises bytes
-unfolding identityOf
-valid-rises {bytes} b v = record { narrow = λ i. number-most bytes (recordSize * i) 4 b; rising = v .rising }
 
 -- i records have an identity below b
 pub record Cut (bytes : List ℕ) (i b : ℕ) : Type 0 where
@@ -33,26 +20,6 @@ pub record Cut (bytes : List ℕ) (i b : ℕ) : Type 0 where
 
 pub cut-start : (bytes : List ℕ) → Cut bytes 0 0
 cut-start bytes = record { most = omega arith; below = λ k h. absurd (not-suc-le-zero h); above = λ k h l. omega arith }
-
--- ---- where an identity stands
-
-module _ (bytes : List ℕ) (x : ℕ) where
-  pub place-is : (p : ℕ) → p < recordsIn bytes → identityOf bytes p ≡ x → ((k : ℕ) → k < p → identityOf bytes k ≡ x → ⊥) → placeOf bytes x ≡ p
-  unfolding placeOf
-  place-is p h e f =
-      sym
-      (first-of _ _
-      (record { most = omega arith; none = λ k l. ne-eqb (identityOf bytes k) x (f k l); taken = λ _. eq-eqb (identityOf bytes p) x e }))
-
-  pub place-none : ((k : ℕ) → k < recordsIn bytes → identityOf bytes k ≡ x → ⊥) → has bytes x ≡ false
-  unfolding placeOf
-  place-none f =
-      let e : recordsIn bytes ≡ placeOf bytes x =
-      first-of _ _ (record { most = le-refl _; none = λ k l. ne-eqb (identityOf bytes k) x (f k l); taken = λ l. absurd (lt-irrefl _ l) }) in
-      le-ltb (placeOf bytes x) (recordsIn bytes) (omega arith)
-
-  pub place-has : (p : ℕ) → p < recordsIn bytes → placeOf bytes x ≡ p → has bytes x ≡ true
-  place-has p h e = lt-ltb (placeOf bytes x) (recordsIn bytes) (omega arith)
 
 -- ---- the next record
 

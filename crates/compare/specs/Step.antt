@@ -5,15 +5,11 @@ use Prim.Native.Nat.{ℕ, _+_}
 use lib.Dec.{ltb}
 use Rattle.catalogue.specs.Format.{recordsIn, identityOf}
 use Rattle.compare.specs.declared.step.Step.{Step}
-use Rattle.compare.specs.Changes.{differ}
+use Rattle.changes.specs.Changes.{bothKind}
 
 -- the identity of record i; behind the last record a number that is above every identity
 unfoldable pub nextOf : List ℕ → ℕ → ℕ
 nextOf bytes i = cond (ltb i (recordsIn bytes)) (identityOf bytes i) 4294967296
-
--- two records with the same identity are listed where they differ
-abbrev pub bothKind : List ℕ → ℕ → List ℕ → ℕ → ℕ
-bothKind first i second j = cond (differ first i second j) 3 0
 
 -- from record i of the first and record j of the second on: the lower identity, or both records where they have the same
 unfoldable pub stepOf : List ℕ → List ℕ → ℕ → ℕ → Step

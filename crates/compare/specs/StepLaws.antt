@@ -1,7 +1,6 @@
 -- The step from a cut of both catalogues: it takes the lowest identity from there on, tells of it what the list does, and leaves both cut behind it.
 -- Assumes nothing.
-use mathlib.Core.Bool.{true, false, cond}
-use mathlib.Core.Path.{_≡_, refl, sym, ap, subst, _∙_}
+use mathlib.Core.Path.{_≡_, refl, sym, subst, _∙_}
 use mathlib.Core.List.{List}
 use Prim.Native.Nat.{ℕ, suc, _+_, _≤_, _<_}
 use native.Mathlib.Decide.{decLt}
@@ -9,9 +8,11 @@ use native.Mathlib.Omega.{arith}
 use borrow.Author.Tests.{lt-ltb, le-ltb}
 use Rattle.catalogue.specs.Format.{recordsIn}
 use Rattle.compare.specs.declared.step.Step.{Step}
-use Rattle.compare.specs.Changes.{placeOf, has, differ, kindOf}
-use Rattle.compare.specs.Step.{nextOf, bothKind, stepOf}
-use Rattle.compare.specs.Cut.{Rises, Cut, next-inside, next-behind, next-here, next-below, cut-none, cut-past, cut-reached, cut-place, cut-has, cut-next}
+use Rattle.changes.specs.Changes.{bothKind, kindOf}
+use Rattle.changes.specs.Places.{Rises}
+use Rattle.changes.specs.Kinds.{kind-first, kind-second, kind-none, kind-both}
+use Rattle.compare.specs.Step.{nextOf, stepOf}
+use Rattle.compare.specs.Cut.{Cut, next-behind, next-below, cut-none, cut-past, cut-reached, cut-place, cut-has, cut-next}
 
 -- ---- by which identity is the lower
 
@@ -28,25 +29,6 @@ module _ (first second : List ℕ) (i j : ℕ) where
       → stepOf first second i j ≡ record { identity = nextOf first i; kind = bothKind first i second j; first = i + 1; second = j + 1 }
   unfolding stepOf
   step-both e = rw (le-ltb (nextOf first i) (nextOf second j) (omega arith), le-ltb (nextOf second j) (nextOf first i) (omega arith))
-
--- ---- what is said of an identity, by who has it
-
-module _ (first second : List ℕ) (x : ℕ) where
-  pub kind-first : has first x ≡ true → has second x ≡ false → kindOf first second x ≡ 1
-  unfolding kindOf
-  kind-first a b = rw (a, b)
-
-  pub kind-second : has first x ≡ false → has second x ≡ true → kindOf first second x ≡ 2
-  unfolding kindOf
-  kind-second a b = rw (a, b)
-
-  pub kind-none : has first x ≡ false → has second x ≡ false → kindOf first second x ≡ 0
-  unfolding kindOf
-  kind-none a b = rw (a, b)
-
-  pub kind-both : has first x ≡ true → has second x ≡ true → kindOf first second x ≡ bothKind first (placeOf first x) second (placeOf second x)
-  unfolding kindOf
-  kind-both a b = rw (a, b)
 
 -- ---- the step
 

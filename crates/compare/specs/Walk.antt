@@ -1,21 +1,22 @@
 -- The walk over two catalogues: behind each step stands the list of all identities that are passed, and at the end all of it. Assumes nothing.
-use mathlib.Core.Bool.{Bool, true, false, cond, not}
+use mathlib.Core.Bool.{Bool, true, false, not}
 use mathlib.Core.Path.{_≡_, refl, sym, ap, subst, _∙_}
-use mathlib.Core.List.{List, [], _∷_, _++_, append-nil, append-assoc}
-use Prim.Native.Nat.{ℕ, zero, suc, _+_, _*_, _≤_, _<_}
-use native.Mathlib.Decide.{ℕ-discrete, decLt}
+use mathlib.Core.List.{List, [], _∷_, _++_}
+use Prim.Native.Nat.{ℕ, suc, _+_, _≤_, _<_}
 use native.Mathlib.Omega.{arith}
 use borrow.Author.Tests.{eq-eqb, ne-eqb}
 use lib.Dec.{eqb}
 use lib.ListN.{length, length-append}
-use Rattle.sorting.specs.Order.{pick, put, ordered}
+use Rattle.sorting.specs.Order.{pick, ordered}
 use Rattle.catalogue.specs.Format.{recordsIn}
 use Rattle.compare.specs.declared.step.Step.{Step}
-use Rattle.compare.specs.Changes.{has, kindOf, isListed, listedBelow, listed}
+use Rattle.changes.specs.Changes.{kindOf, isListed, listedBelow, listed}
+use Rattle.changes.specs.Places.{Rises}
+use Rattle.changes.specs.Kinds.{kind-none}
+use Rattle.changes.specs.Below.{below-next, below-skip, below-more}
 use Rattle.compare.specs.Step.{stepOf}
-use Rattle.compare.specs.Cut.{Rises, Cut, cut-start, next-behind, cut-none}
-use Rattle.compare.specs.Below.{below-next, below-skip, below-more}
-use Rattle.compare.specs.StepLaws.{Stepped, stepped, kind-none}
+use Rattle.compare.specs.Cut.{Cut, cut-start, next-behind, cut-none}
+use Rattle.compare.specs.StepLaws.{Stepped, stepped}
 
 -- ---- one step
 

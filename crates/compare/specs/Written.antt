@@ -1,40 +1,23 @@
 -- The list's bytes at the front of a room, to which a step adds. Assumes nothing.
 use mathlib.Core.Bool.{Bool, true, false, not}
 use mathlib.Core.Path.{_≡_, refl, sym, ap, _∙_}
-use mathlib.Core.List.{List, [], _∷_, _++_, append-nil, append-assoc}
+use mathlib.Core.List.{List, [], _∷_, _++_, append-nil}
 use Prim.Native.Nat.{ℕ, _+_, _*_, _≤_, _<_}
 use native.Mathlib.Omega.{arith}
 use borrow.Author.Tests.{eq-eqb, ne-eqb}
 use lib.Dec.{eqb}
-use lib.ListN.{length, take, drop, length-append, length-drop}
+use lib.ListN.{length, drop, length-append, length-drop}
 use lib.Seq.{sets, sets-eq, take-at, drop-drop, drop-append-add}
 use Rattle.sorting.specs.Order.{pick}
 use Rattle.words.specs.Bytes.{bytesOf}
-use Rattle.words.specs.BytesLaws.{bytes-length, bytes-join, put-join}
+use Rattle.words.specs.BytesLaws.{bytes-join, put-join}
 use Rattle.catalogue.specs.Format.{recordsIn}
 use Rattle.compare.specs.declared.step.Step.{Step}
-use Rattle.compare.specs.Changes.{kindOf, listed, recordOf, encoded, changesOf}
+use Rattle.changes.specs.Changes.{kindOf, listed, recordOf, encoded, changesOf}
+use Rattle.changes.specs.Places.{Rises}
+use Rattle.changes.specs.Encoded.{encoded-length, encoded-append}
 use Rattle.compare.specs.Step.{stepOf}
-use Rattle.compare.specs.Cut.{Rises}
 use Rattle.compare.specs.Walk.{told, Walked, soFar, walk-start, so-far-none, so-far-part, walk-next, walk-kind, so-far-next, so-far-all}
-
--- ---- the bytes of some identities
-
-pub record-length : (identity kind : ℕ) → length (recordOf identity kind) ≡ 8
-unfolding recordOf
-record-length identity kind =
-    omega (arith, length-append (bytesOf 4 identity) (bytesOf 4 kind), bytes-length 4 identity, bytes-length 4 kind)
-
-module _ (kind : ℕ → ℕ) where
-  pub encoded-length : (xs : List ℕ) → length (encoded kind xs) ≡ 8 * length xs
-  unfolding encoded
-  encoded-length [] = refl
-  encoded-length (x ∷ xs) = omega (arith, length-append (recordOf x (kind x)) (encoded kind xs), record-length x (kind x), encoded-length xs)
-
-  pub encoded-append : (xs ys : List ℕ) → encoded kind (xs ++ ys) ≡ encoded kind xs ++ encoded kind ys
-  unfolding encoded
-  encoded-append [] ys = refl
-  encoded-append (x ∷ xs) ys = rw (encoded-append xs ys, append-assoc)
 
 -- a record written in two parts
 pub parts-written : (room : List ℕ) (at identity kind : ℕ) → kind < 4294967296

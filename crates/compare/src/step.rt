@@ -4,8 +4,8 @@ ghost use mathlib.Core.Path.{_≡_};
 ghost use Prim.Native.Nat.{_+_, _*_, _<_, _≤_};
 ghost use lib.ListN.{length};
 ghost use Rattle.catalogue.specs.Format.{recordSize, recordsIn};
-ghost use Rattle.compare.specs.Changes.{differ as differOf};
-ghost use Rattle.compare.specs.Step.{nextOf, bothKind, stepOf};
+ghost use Rattle.changes.specs.Changes.{differ as differOf, bothKind};
+ghost use Rattle.compare.specs.Step.{nextOf, stepOf};
 
 // How many words a record has behind its identity.
 const FIELDS: usize = RECORD_SIZE / 4 - 1;

@@ -8,7 +8,7 @@ ghost use Prim.Native.Nat.{_+_, _*_, _≤_};
 ghost use lib.ListN.{length};
 ghost use lib.Seq.{sets};
 ghost use Rattle.catalogue.specs.Valid.{Valid};
-ghost use Rattle.compare.specs.Changes.{listed, changesOf};
+ghost use Rattle.changes.specs.Changes.{listed, changesOf};
 ghost use Rattle.compare.specs.Walk.{told};
 ghost use Rattle.compare.specs.Written.{toldBytes, atFront};
 

@@ -1,16 +1,15 @@
 -- `compare::compare` meets its contract: the catalogues' refusal, that of the room, or the list. Assumes nothing.
 use mathlib.Core.Path.{_≡_, refl, sym, ap, _∙_}
 use mathlib.Core.List.{List}
-use Prim.Native.Nat.{ℕ, _*_, _≤_, _<_}
+use Prim.Native.Nat.{ℕ}
 use native.Mathlib.Omega.{arith}
 use lib.ListN.{length}
 use Rattle.refusal.specs.declared.Outcome.{Outcome}
 use Rattle.refusal.specs.declared.Outcome.the-variants.{Accepted}
 use Rattle.refusal.specs.Table.{lowest, answered}
-use Rattle.catalogue.specs.Valid.{Valid}
 use Rattle.compare.specs.declared.Compared.{Compared}
 use Rattle.compare.specs.declared.Compared.the-variants.{Refused, Records}
-use Rattle.compare.specs.Changes.{listed, changesOf}
+use Rattle.changes.specs.Changes.{listed, changesOf}
 use Rattle.compare.specs.Written.{atFront}
 use Rattle.compare.specs.Compare.{cataloguesRefused, refusalsOf, comparedOf, roomAfter, answerOf, answerFor}
 use Rattle.compare.specs.CompareSteps.{both-valid, compared, answers, refused, too-short, long-enough, room-after}

@@ -1,6 +1,5 @@
 -- `compare::judge` meets its contract: the second catalogue is asked where the first is valid. Assumes nothing.
-use mathlib.Core.Path.{_≡_, sym, _∙_}
-use Rattle.catalogue.specs.Format.{recordsIn}
+use mathlib.Core.Path.{sym, _∙_}
 use Rattle.catalogue.specs.Valid.{Valid}
 use Rattle.catalogue.specs.CheckLaws.{checked-refused, checked-valid, valid-accepted}
 use Rattle.compare.specs.CompareSteps.{first-refused, then-second}

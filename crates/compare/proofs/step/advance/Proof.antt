@@ -5,7 +5,8 @@ use Prim.Native.Nat.{ℕ, _+_, _≤_, _<_}
 use native.Mathlib.Decide.{decLt}
 use native.Mathlib.Omega.{arith}
 use Rattle.catalogue.specs.Format.{recordsIn}
-use Rattle.compare.specs.Step.{nextOf, bothKind, stepOf}
+use Rattle.changes.specs.Changes.{bothKind}
+use Rattle.compare.specs.Step.{nextOf, stepOf}
 use Rattle.compare.specs.StepLaws.{step-first, step-second, step-both}
 use borrow.Author.Needs.{needs}
 use Rattle.compare.proofs.step.advance.Statement.{statement}

@@ -3,8 +3,8 @@ use borrow.Author.Count.{below-none, below-more}
 use mathlib.Core.Path.{_≡_, sym, _∙_}
 use Prim.Native.Nat.{ℕ, _-_, _≤_, _<_}
 use native.Mathlib.Omega.{arith}
-use Rattle.compare.specs.Changes.{fields, fieldOf}
-use Rattle.compare.specs.DifferLaws.{differ-any, differ-none}
+use Rattle.changes.specs.Changes.{fields, fieldOf}
+use Rattle.changes.specs.DifferLaws.{differ-any, differ-none}
 use borrow.Author.Needs.{needs}
 use Rattle.compare.proofs.step.differ.Statement.{statement}
 use Rattle.compare.proofs.step.differ.Tie as tie

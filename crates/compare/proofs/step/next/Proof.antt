@@ -1,10 +1,10 @@
 -- `compare::step::next` meets its contract. Assumes nothing.
 use mathlib.Core.Path.{_≡_, sym, _∙_}
 use mathlib.Core.List.{List}
-use Prim.Native.Nat.{ℕ, _≤_, _<_}
+use Prim.Native.Nat.{ℕ, _<_}
 use native.Mathlib.Omega.{arith}
 use borrow.Author.Tests.{lt-ltb}
-use Rattle.catalogue.specs.Format.{recordsIn, identityOf}
+use Rattle.catalogue.specs.Format.{recordsIn}
 use Rattle.catalogue.specs.Stars.{identityFor}
 use Rattle.compare.specs.Step.{nextOf}
 use Rattle.compare.specs.Cut.{next-inside, next-behind}

@@ -1,11 +1,10 @@
 -- `compare::walk::count` meets its contract. The loop's invariant: so many are in the list of all identities that are passed. Assumes nothing.
-use mathlib.Core.Path.{_≡_, sym, ap, _∙_}
-use mathlib.Core.List.{List}
+use mathlib.Core.Path.{_≡_, ap}
 use Prim.Native.Nat.{ℕ, _+_, _-_, _≤_, _<_}
 use native.Mathlib.Omega.{arith}
 use lib.ListN.{length}
 use Rattle.catalogue.specs.Format.{recordsIn}
-use Rattle.compare.specs.Cut.{Rises, valid-rises}
+use Rattle.changes.specs.Places.{Rises, valid-rises}
 use Rattle.compare.specs.Walk.{told, told-none, told-one, walk-further, Counted, counted-start, counted-next, counted-all}
 use borrow.Author.Needs.{needs}
 use Rattle.compare.proofs.walk.count.Statement.{statement}

@@ -8,7 +8,7 @@ use lib.Seq.{sets, length-sets}
 use Rattle.words.specs.Bytes.{bytesOf}
 use Rattle.compare.specs.declared.step.Step.{Step}
 use Rattle.compare.specs.Walk.{told, told-none, told-one}
-use Rattle.compare.specs.Written.{toldBytes, bytes-none, bytes-one, parts-written}
+use Rattle.compare.specs.Written.{bytes-none, bytes-one, parts-written}
 use borrow.Author.Needs.{needs}
 use Rattle.compare.proofs.walk.put.Statement.{statement}
 use Rattle.compare.proofs.walk.put.Tie as tie

@@ -1,13 +1,12 @@
 -- `compare::walk::write` meets its contract. The loop's invariant: the list of all identities that are passed stands at the front. Assumes nothing.
-use mathlib.Core.Path.{_≡_, refl, sym, ap, _∙_}
-use mathlib.Core.List.{List}
-use Prim.Native.Nat.{ℕ, _+_, _*_, _-_, _≤_, _<_}
+use mathlib.Core.Path.{_≡_, refl, ap, _∙_}
+use Prim.Native.Nat.{_+_, _*_, _-_, _≤_, _<_}
 use native.Mathlib.Omega.{arith}
 use lib.ListN.{length}
 use lib.Seq.{length-sets}
 use Rattle.catalogue.specs.Format.{recordsIn}
-use Rattle.compare.specs.Cut.{Rises, valid-rises}
-use Rattle.compare.specs.Walk.{told, walk-further}
+use Rattle.changes.specs.Places.{Rises, valid-rises}
+use Rattle.compare.specs.Walk.{walk-further}
 use Rattle.compare.specs.Written.{toldBytes, Written, written-start, written-room, written-next, written-all}
 use borrow.Author.Needs.{needs}
 use Rattle.compare.proofs.walk.write.Statement.{statement}

@@ -1,15 +1,15 @@
 -- The records of the list as they are read from its bytes. Assumes nothing.
-use mathlib.Core.Path.{_≡_, refl, sym, ap, _∙_}
+use mathlib.Core.Path.{_≡_, ap, _∙_}
 use mathlib.Core.List.{List, [], _∷_, _++_, append-assoc}
-use Prim.Native.Nat.{ℕ, zero, suc, _+_, _*_, _≤_, _<_}
+use Prim.Native.Nat.{ℕ, zero, suc, _+_, _*_, _<_}
 use native.Mathlib.Nat.{not-suc-le-zero}
 use native.Mathlib.Omega.{arith}
 use lib.ListN.{length, getD}
 use Rattle.words.specs.Number.{numberAt}
 use Rattle.words.specs.Bytes.{bytesOf}
 use Rattle.words.specs.BytesLaws.{bytes-length, number-front, number-behind}
-use Rattle.compare.specs.Changes.{recordOf, encoded}
-use Rattle.compare.specs.Written.{record-length}
+use Rattle.changes.specs.Changes.{recordOf, encoded}
+use Rattle.changes.specs.Encoded.{record-length}
 
 -- the identity of record p of a list, and what is said of it
 abbrev pub identityAt : List ℕ → ℕ → ℕ

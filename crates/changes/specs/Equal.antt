@@ -1,13 +1,13 @@
 -- The list is empty exactly where the two catalogues are equal, byte for byte. Assumes nothing.
-use mathlib.Core.Bool.{Bool, true, false}
+use mathlib.Core.Bool.{true, false}
 use mathlib.Core.Path.{_≡_, refl, sym, ap, subst, _∙_}
 use mathlib.Core.List.{List, [], _∷_}
-use Prim.Native.Nat.{ℕ, zero, suc, _+_, _*_, _/_, _%_, _^_, _≤_, _<_}
+use Prim.Native.Nat.{ℕ, zero, suc, _+_, _*_, _/_, _%_, _≤_, _<_}
 use native.Mathlib.Decide.{decLt, ℕ-discrete}
 use native.Mathlib.Nat.{not-suc-le-zero}
 use native.Mathlib.Omega.{arith}
 use borrow.Author.Tests.{eqb-false, not-true}
-use lib.ListN.{length, getD, take, drop}
+use lib.ListN.{length, getD}
 use lib.Seq.{take-all}
 use Rattle.counting.specs.Contradiction.{contradiction}
 use Rattle.words.specs.Number.{numberAt}
@@ -16,11 +16,12 @@ use Rattle.words.specs.Bytes.{bytesOf}
 use Rattle.words.specs.BytesLaws.{write-back}
 use Rattle.catalogue.specs.Format.{recordSize, recordsIn, identityOf}
 use Rattle.catalogue.specs.Valid.{Valid}
-use Rattle.compare.specs.Changes.{placeOf, has, fields, fieldOf, differ, kindOf, listed, changesOf}
-use Rattle.compare.specs.DifferLaws.{differ-none, differ-same}
-use Rattle.compare.specs.Cut.{Rises, valid-rises}
-use Rattle.compare.specs.CompareSteps.{changes-length}
-use Rattle.compare.specs.Laws.{Has, Lists, Way, only-first, only-second, differing, same, neither, way, has-some, the-place, some-has, listed-passing, kind-lists}
+use Rattle.changes.specs.Changes.{placeOf, has, fields, fieldOf, differ, kindOf, listed, changesOf}
+use Rattle.changes.specs.DifferLaws.{differ-none, differ-same}
+use Rattle.changes.specs.Places.{Rises, valid-rises}
+use Rattle.changes.specs.Kinds.{Way, only-first, only-second, differing, same, neither, way}
+use Rattle.changes.specs.Encoded.{changes-length}
+use Rattle.changes.specs.Laws.{Has, has-some, the-place, some-has, listed-passing, kind-lists}
 
 no-bytes : (l : List ℕ) → length l ≡ 0 → l ≡ []
 no-bytes [] e = refl

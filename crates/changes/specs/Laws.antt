@@ -3,27 +3,26 @@
 -- strictly, so that each stands once; and nothing else is listed. Assumes nothing.
 use mathlib.Core.Bool.{Bool, true, false, cond, not}
 use mathlib.Core.Logic.{_⊎_, inl, inr}
-use mathlib.Core.Path.{_≡_, refl, sym, ap, _∙_}
+use mathlib.Core.Path.{_≡_, sym, ap, _∙_}
 use mathlib.Core.List.{List}
-use Prim.Native.Nat.{ℕ, suc, _+_, _*_, _≤_, _<_}
+use Prim.Native.Nat.{ℕ, _+_, _*_, _≤_, _<_}
 use native.Mathlib.Decide.{decLt}
 use native.Mathlib.Omega.{arith}
-use borrow.Author.Tests.{eqb-true, eqb-false, ltb-true, eq-eqb, ne-eqb, not-true}
+use borrow.Author.Tests.{eqb-true, eqb-false, ltb-true, ne-eqb, not-true}
 use lib.Dec.{eqb}
 use lib.ListN.{length, getD}
 use Rattle.counting.specs.Contradiction.{contradiction}
 use Rattle.counting.specs.First.{first-is}
 use Rattle.catalogue.specs.Format.{recordsIn, identityOf, componentOf}
 use Rattle.catalogue.specs.Valid.{Valid}
-use Rattle.compare.specs.Changes.{placeOf, has, fields, differ, kindOf, isListed, listed, changesOf}
-use Rattle.compare.specs.DifferLaws.{differ-some, differ-any}
-use Rattle.compare.specs.Cut.{Rises, valid-rises, place-is, place-none, place-has}
-use Rattle.compare.specs.StepLaws.{kind-first, kind-second, kind-none, kind-both}
-use Rattle.compare.specs.Below.{Place, Passing, passing}
-use Rattle.compare.specs.Written.{encoded-length}
-use Rattle.compare.specs.CompareSteps.{changes-length}
-use Rattle.compare.specs.Read.{identityAt, kindAt, read-identity, read-kind}
-use Rattle.compare.specs.Fields.{field-component, component-field}
+use Rattle.changes.specs.Changes.{placeOf, has, fields, differ, kindOf, isListed, listed, changesOf}
+use Rattle.changes.specs.DifferLaws.{differ-some, differ-any}
+use Rattle.changes.specs.Places.{Rises, valid-rises, place-is, place-none, place-has}
+use Rattle.changes.specs.Kinds.{kind-first, kind-second, kind-both, Way, only-first, only-second, differing, same, neither, way}
+use Rattle.changes.specs.Below.{Passing, passing}
+use Rattle.changes.specs.Encoded.{changes-length}
+use Rattle.changes.specs.Read.{identityAt, kindAt, read-identity, read-kind}
+use Rattle.changes.specs.Fields.{field-component, component-field}
 
 -- ---- the words of these laws
 
@@ -67,25 +66,7 @@ the-place {bytes} r x h = place-is bytes x (h .place) (h .inside) (h .is) (λ k 
 pub some-has : {bytes : List ℕ} → Rises bytes → (x : ℕ) → Has bytes x → has bytes x ≡ true
 some-has {bytes} r x h = place-has bytes x (h .place) (h .inside) (the-place r x h)
 
--- ---- what is said of one
-
--- the ways that it can be
-pub data Way (first second : List ℕ) (x : ℕ) : Type 0 where
-  only-first : has first x ≡ true → has second x ≡ false → kindOf first second x ≡ 1 → Way first second x
-  only-second : has first x ≡ false → has second x ≡ true → kindOf first second x ≡ 2 → Way first second x
-  differing : has first x ≡ true → has second x ≡ true → differ first (placeOf first x) second (placeOf second x) ≡ true → kindOf first second x ≡ 3 → Way first second x
-  same : has first x ≡ true → has second x ≡ true → differ first (placeOf first x) second (placeOf second x) ≡ false → kindOf first second x ≡ 0 → Way first second x
-  neither : has first x ≡ false → has second x ≡ false → kindOf first second x ≡ 0 → Way first second x
-
-pub way : (first second : List ℕ) (x : ℕ) → Way first second x
-way first second x = go (has first x) (has second x) (differ first (placeOf first x) second (placeOf second x)) refl refl refl
-  where
-    go : (a b d : Bool) → has first x ≡ a → has second x ≡ b → differ first (placeOf first x) second (placeOf second x) ≡ d → Way first second x
-    go true false d e f g = only-first e f (kind-first first second x e f)
-    go false true d e f g = only-second e f (kind-second first second x e f)
-    go false false d e f g = neither e f (kind-none first second x e f)
-    go true true true e f g = differing e f g (kind-both first second x e f ∙ ap {B = ℕ} (λ (t : Bool). cond t 3 0) g)
-    go true true false e f g = same e f g (kind-both first second x e f ∙ ap {B = ℕ} (λ (t : Bool). cond t 3 0) g)
+-- ---- the list
 
 kind-small : (first second : List ℕ) (x : ℕ) → kindOf first second x < 4294967296
 kind-small first second x = go (way first second x)
@@ -96,8 +77,6 @@ kind-small first second x = go (way first second x)
     go (differing a b d e) = omega arith
     go (same a b d e) = omega arith
     go (neither a b e) = omega arith
-
--- ---- the list
 
 module _ (first second : List ℕ) where
   pub listed-passing : Passing (isListed first second) 4294967296 (listed first second)

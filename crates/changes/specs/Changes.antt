@@ -32,11 +32,15 @@ fieldOf bytes i k = numberAt bytes (recordSize * i + (4 + 4 * k)) 4
 unfoldable pub differ : List ℕ → ℕ → List ℕ → ℕ → Bool
 differ first i second j = ltb (firstWhere (λ k. not (eqb (fieldOf first i k) (fieldOf second j k))) fields) fields
 
--- what the list says of an identity: 1, only the first has it; 2, only the second; 3, both, with different words. 0, it is not listed
+-- what the list says of two records with the same identity: 3 where they differ, and nothing where not
+abbrev pub bothKind : List ℕ → ℕ → List ℕ → ℕ → ℕ
+bothKind first i second j = cond (differ first i second j) 3 0
+
+-- what it says of an identity: 1, only the first has it; 2, only the second; 3, both, with different words. 0, it is not listed
 unfoldable pub kindOf : List ℕ → List ℕ → ℕ → ℕ
 kindOf first second identity =
     cond (has first identity)
-    (cond (has second identity) (cond (differ first (placeOf first identity) second (placeOf second identity)) 3 0) 1)
+    (cond (has second identity) (bothKind first (placeOf first identity) second (placeOf second identity)) 1)
     (cond (has second identity) 2 0)
 
 -- ---- the list

@@ -1,11 +1,10 @@
 -- A record's words and the numbers that they stand for: one differs where the other does. Assumes nothing.
-use mathlib.Core.Path.{_≡_, refl, sym, ap, _∙_}
+use mathlib.Core.Path.{_≡_, sym, ap, _∙_}
 use mathlib.Core.List.{List}
-use Prim.Native.Nat.{ℕ, _+_, _*_, _≤_, _<_}
+use Prim.Native.Nat.{ℕ, _+_, _*_, _<_}
 use native.Mathlib.Decide.{decLt}
 use native.Mathlib.Omega.{arith}
 use borrow.Author.Tests.{lt-ltb, le-ltb}
-use lib.IntN.{pos, _-ℤ_}
 use lib.ListN.{getD}
 use mir.Syntax.{w32}
 use mir.Val.{toZ, ofZ}
@@ -13,7 +12,7 @@ use mir.ValLaws.{ofZ-toZ}
 use Rattle.words.specs.NumberLaws.{number-most}
 use Rattle.catalogue.specs.Format.{recordSize, signedOf, componentOf}
 use Rattle.catalogue.specs.Signed.{signed-low, signed-high}
-use Rattle.compare.specs.Changes.{fieldOf}
+use Rattle.changes.specs.Changes.{fieldOf}
 
 -- the number that a word stands for is the one that the machine reads in its bits
 signed-bits : (w : ℕ) → w < 4294967296 → signedOf w ≡ toZ w32 w

@@ -1,15 +1,14 @@
 -- Two records differ exactly where a word behind the identity does. Assumes nothing.
 use mathlib.Core.Bool.{Bool, true, false, not}
-use mathlib.Core.Path.{_≡_, refl, sym, ap, _∙_}
+use mathlib.Core.Path.{_≡_, refl, ap}
 use mathlib.Core.List.{List}
-use Prim.Native.Nat.{ℕ, _≤_, _<_}
-use native.Mathlib.Decide.{decLt}
+use Prim.Native.Nat.{ℕ, _<_}
 use native.Mathlib.Nat.{le-refl, lt-irrefl}
 use native.Mathlib.Omega.{arith}
-use borrow.Author.Tests.{lt-ltb, le-ltb, ltb-true, ltb-false, eq-eqb, ne-eqb, eqb-true, eqb-false, not-true, not-false}
+use borrow.Author.Tests.{le-ltb, ltb-true, ltb-false, eq-eqb, eqb-true, eqb-false, not-true, not-false}
 use lib.Dec.{eqb}
-use Rattle.counting.specs.First.{first as firstWhere, First, first-is, first-of}
-use Rattle.compare.specs.Changes.{fields, fieldOf, differ}
+use Rattle.counting.specs.First.{first as firstWhere, first-is, first-of}
+use Rattle.changes.specs.Changes.{fields, fieldOf, differ}
 
 module _ (first : List ℕ) (i : ℕ) (second : List ℕ) (j : ℕ) where
   abbrev other : ℕ → Bool

@@ -1,0 +1,1 @@
+// What changed between two catalogues, as a list of records: theory without code.
