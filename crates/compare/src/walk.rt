@@ -7,21 +7,29 @@ ghost use mathlib.Core.Path.{_≡_};
 ghost use Prim.Native.Nat.{_+_, _*_, _≤_};
 ghost use lib.ListN.{length};
 ghost use lib.Seq.{sets};
+ghost use Rattle.catalogue.specs.Format.{recordsIn};
 ghost use Rattle.catalogue.specs.Valid.{Valid};
 ghost use Rattle.changes.specs.Changes.{listed, changesOf};
 ghost use Rattle.compare.specs.Walk.{told};
 ghost use Rattle.compare.specs.Written.{toldBytes, atFront};
+
+// How many records both catalogues have.
+fn most_steps(first: &[u8], second: &[u8]) -> usize
+    ensures { λ r. ⌜ r ≡ recordsIn (now (first .entry)) + recordsIn (now (second .entry)) ⌝ }
+{
+    catalogue::records(first) + catalogue::records(second)
+}
 
 // How many records the list has.
 pub(crate) fn count(first: &[u8], second: &[u8]) -> usize
     requires { ⌜ Valid (now first) × Valid (now second) ⌝ }
     ensures { λ r. ⌜ (r ≡ length (listed (now (first .entry)) (now (second .entry)))) × (r ≤ 1024) ⌝ }
 {
-    let total = catalogue::records(first) + catalogue::records(second);
+    let most = most_steps(first, second);
     let mut found: usize = 0;
     let mut i: usize = 0;
     let mut j: usize = 0;
-    while i + j < total {
+    while i + j < most {
         let s = step::advance(first, second, i, j);
         if s.kind != 0 {
             found += 1;
@@ -53,11 +61,11 @@ pub(crate) fn write(first: &[u8], second: &[u8], room: &mut [u8])
     requires { ⌜ 8 * length (listed (now first) (now second)) ≤ length (now room) ⌝ }
     ensures { λ r. ⌜ now (room .exit) ≡ atFront (changesOf (now (first .entry)) (now (second .entry))) (now (room .entry)) ⌝ }
 {
-    let total = catalogue::records(first) + catalogue::records(second);
+    let most = most_steps(first, second);
     let mut found: usize = 0;
     let mut i: usize = 0;
     let mut j: usize = 0;
-    while i + j < total {
+    while i + j < most {
         let s = step::advance(first, second, i, j);
         found = put(room, found, s);
         i = s.first;

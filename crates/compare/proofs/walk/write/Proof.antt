@@ -13,20 +13,20 @@ use Rattle.compare.proofs.walk.write.Statement.{statement}
 use Rattle.compare.proofs.walk.write.Tie as tie
 
 abbrev Inv-loop : tie.InvT-loop
-Inv-loop first second room₀ total found₀ i₀ j₀ room found i j = (length room ≡ length room₀) × Written first second i j found room₀ room
+Inv-loop first second room₀ most found₀ i₀ j₀ room found i j = (length room ≡ length room₀) × Written first second i j found room₀ room
 
 abbrev μ-loop : tie.MeasureT-loop
-μ-loop first second room₀ total found₀ i₀ j₀ room found i j = total - (i + j)
+μ-loop first second room₀ most found₀ i₀ j₀ room found i j = most - (i + j)
 
 -- the entry, from the loop
 abbrev start : tie.At-loop Inv-loop μ-loop → tie.Start Inv-loop μ-loop
-start a = a .before .before .before .before .before .before
+start a = a .before .before .before .before .before
 
 rises-first : (a : tie.At-loop Inv-loop μ-loop) → Rises (start a .args .first .now)
-rises-first a = valid-rises (λ n. a .before .before .before .before .before .shared-slice-known .given n .fits) (start a .pre .0 .0)
+rises-first a = valid-rises (λ n. a .before .before .before .before .shared-slice-known .given n .fits) (start a .pre .0 .0)
 
 rises-second : (a : tie.At-loop Inv-loop μ-loop) → Rises (start a .args .second .now)
-rises-second a = valid-rises (λ n. a .before .before .before .before .shared-slice-known2 .given n .fits) (start a .pre .0 .1)
+rises-second a = valid-rises (λ n. a .before .before .before .shared-slice-known2 .given n .fits) (start a .pre .0 .1)
 
 -- no more steps than both have records
 short : (a : tie.At-loop Inv-loop μ-loop) → a .loop .i + a .loop .j ≤ 1024
@@ -36,19 +36,13 @@ short a =
 
 -- there is a record left
 more : (c : tie.In-loop Inv-loop μ-loop) → let a = c .before in let x = start a .args in a .loop .i + a .loop .j < recordsIn (x .first .now) + recordsIn (x .second .now)
-more c = omega (arith, c .before .before .before .records .ensures, c .before .before .records2 .ensures)
+more c = omega (arith, c .before .before .most-steps .ensures)
 
 further : (c : tie.After-advance Inv-loop μ-loop) → let l = c .before .before .loop in let s = c .advance .result in l .i + l .j < s .first + s .second
 further c = let a = c .before .before in walk-further (rises-first a) (rises-second a) (a .loop .inv .1 .walked) (more (c .before)) (c .advance .result) (c .advance .ensures)
 
-records-requires : tie.Need-records-requires Inv-loop μ-loop
-records-requires c κs = search needs
-
-records-requires-2 : tie.Need-records-requires-2 Inv-loop μ-loop
-records-requires-2 c κs = search needs
-
-add-total : tie.Need-add-total Inv-loop μ-loop
-add-total c = search needs
+most-steps-requires : tie.Need-most-steps-requires Inv-loop μ-loop
+most-steps-requires c κs = search needs
 
 loop-holds : tie.Need-loop-holds Inv-loop μ-loop
 loop-holds c = (refl, written-start _ _ _)
@@ -86,7 +80,7 @@ same-length c = search needs
 returns : tie.Need-returns Inv-loop μ-loop
 returns c =
     let a = c .before in
-    written-all (rises-first a) (rises-second a) (a .loop .inv .1) (omega (arith, a .before .before .records .ensures, a .before .records2 .ensures))
+    written-all (rises-first a) (rises-second a) (a .loop .inv .1) (omega (arith, a .before .most-steps .ensures))
 
 pub write-spec : {M : Type 1} → statement M
 write-spec =
@@ -94,9 +88,7 @@ write-spec =
     (tie.spec
     Inv-loop
     μ-loop
-    records-requires
-    records-requires-2
-    add-total
+    most-steps-requires
     loop-holds
     add-loop
     advance-requires
