@@ -3,14 +3,15 @@ use mathlib.Core.Path.{_≡_, refl, sym, ap, _∙_}
 use mathlib.Core.List.{List, [], _∷_}
 use Prim.Native.Nat.{ℕ, _*_, _≤_, _<_}
 use native.Mathlib.Omega.{arith}
-use borrow.Author.Tests.{lt-ltb, le-ltb}
+use borrow.Author.Tests.{lt-ltb, le-ltb, ltb-false}
 use lib.ListN.{length}
+use Rattle.counting.specs.Contradiction.{contradiction}
 use Rattle.refusal.specs.declared.Outcome.{Outcome}
 use Rattle.refusal.specs.declared.Outcome.the-variants.{Accepted}
 use Rattle.refusal.specs.declared.Refusal.{Refusal}
 use Rattle.refusal.specs.Numbers as number
 use Rattle.refusal.specs.Table.{refusalOf, row, lowest, answered}
-use Rattle.refusal.specs.Laws.{lowest-append, lowest-here, silent-accepted, Silent, otherwise-accepted}
+use Rattle.refusal.specs.Laws.{lowest-append, lowest-here, silent-accepted, accepted-silent, Silent, otherwise-accepted}
 use Rattle.refusal.specs.AnswerLaws.{answerBy, answered-by}
 use Rattle.catalogue.specs.Check as catalogue
 use Rattle.catalogue.specs.CheckLaws.{valid-accepted, accepted-valid}
@@ -65,3 +66,30 @@ module _ (first second : List ℕ) where
   pub room-after : (room : List ℕ) {o : Outcome} → lowest (refusalsOf first second (length room)) ≡ o → roomAfter first second room ≡ answered (λ _. room) (atFront (changesOf first second) room) o
   unfolding roomAfter
   room-after room e = ap (λ (o : Outcome). answered (λ _. room) (atFront (changesOf first second) room) o) e
+
+  -- ---- an accepted call
+
+  accepted-by : (k n : ℕ) (o : Outcome) → answered Refused (Records k) o ≡ Records n → (o ≡ Accepted) × (n ≡ k)
+  accepted-by k n Accepted e = (refl, cc)
+  accepted-by k n (Outcome.Refused r) e = contradiction (cc)
+
+  module _ (room : List ℕ) (n : ℕ) (e : comparedOf first second (length room) ≡ Records n) where
+    by : (lowest (refusalsOf first second (length room)) ≡ Accepted) × (n ≡ length (listed first second))
+    by = accepted-by (length (listed first second)) n (lowest (refusalsOf first second (length room))) (sym (compared (length room) refl) ∙ e)
+
+    -- the list has so many records
+    pub records-are : length (changesOf first second) ≡ 8 * n
+    records-are = omega (arith, changes-length first second, by .1)
+
+    -- it lies in the room
+    pub records-fit : 8 * n ≤ length room
+    unfolding refusalsOf Silent
+    records-fit =
+        let last = row (roomShort first second (length room)) number.changesRoom ∷ [] in
+        let p = otherwise-accepted (lowest (cataloguesRefused first second)) (lowest last) (sym (lowest-append (cataloguesRefused first second) last) ∙ by .0) in
+        let q = accepted-silent last (p .1) in
+        omega (arith, records-are, ltb-false (length room) (length (changesOf first second)) (q .0))
+
+    -- and stands at its front
+    pub records-there : roomAfter first second room ≡ atFront (changesOf first second) room
+    records-there = room-after room (by .0)
