@@ -30,6 +30,10 @@ fn index_usage() {
     );
 }
 
+fn compare_usage() {
+    io::write_all(STDERR_FILENO, b"usage: ./mnemathor compare OLD NEW\n");
+}
+
 // Writes an answer out. A program has no exit status of its own, so a write that failed is told on standard error.
 fn show(answer: &[u8]) {
     if !io::write_all(STDOUT_FILENO, answer) {
@@ -48,6 +52,15 @@ fn read(name: &[u8], buffer: &mut [u8]) -> usize
     let n = io::read_full(fd, buffer);
     libc::close(fd);
     n
+}
+
+// Reads the file that word i names.
+fn read_named(i: usize, buffer: &mut [u8]) -> usize
+    ensures { λ r. ⌜ Counts r (now (buffer .exit)) ⌝ }
+{
+    let mut name = [0u8; PATH_ROOM];
+    let n = os::arg(i, &mut name);
+    read(&name[..n], buffer)
 }
 
 fn word_is(i: usize, name: &[u8]) -> bool {
@@ -138,10 +151,8 @@ fn make(catalogue: &[u8], floor: i64, index: &mut [u8]) {
 
 // The index of the catalogue that the second word names.
 fn index(floor: i64) {
-    let mut name = [0u8; PATH_ROOM];
-    let n = os::arg(2, &mut name);
     let mut catalogue = [0u8; CATALOGUE_ROOM];
-    let m = read(&name[..n], &mut catalogue);
+    let m = read_named(2, &mut catalogue);
     let mut index = [0u8; INDEX_ROOM];
     make(&catalogue[..m], floor, &mut index);
 }
@@ -160,9 +171,33 @@ fn index_words() {
     index(g);
 }
 
+// What changed from the catalogue that the second word names to the one that the third does.
+fn compare() {
+    let mut old = [0u8; CATALOGUE_ROOM];
+    let n = read_named(2, &mut old);
+    let mut new = [0u8; CATALOGUE_ROOM];
+    let m = read_named(3, &mut new);
+    let mut lines = [0u8; compare_lines::ROOM];
+    let k = compare_lines::compare_text(&old[..n], &new[..m], &mut lines);
+    show(&lines[..k]);
+}
+
+// compare OLD NEW
+fn compare_words() {
+    if os::arg_count() != 4 {
+        compare_usage();
+        return;
+    }
+    compare();
+}
+
 fn main() {
     if word_is(1, b"index") {
         index_words();
+        return;
+    }
+    if word_is(1, b"compare") {
+        compare_words();
         return;
     }
     why_words();

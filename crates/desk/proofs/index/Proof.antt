@@ -6,23 +6,11 @@ use lib.ListN.{length-replicate}
 use Rattle.desk.proofs.index.Statement.{statement}
 use Rattle.desk.proofs.index.Tie as tie
 
-slice-aggregate-arg : tie.Need-slice-aggregate-arg
-slice-aggregate-arg c = search needs
+slice-aggregate-read-named : tie.Need-slice-aggregate-read-named
+slice-aggregate-read-named c = search needs
 
-arg-requires : tie.Need-arg-requires
-arg-requires c κs = search needs
-
-array-share-prefix-name : tie.Need-array-share-prefix-name
-array-share-prefix-name c = search needs
-
-slice-aggregate-read : tie.Need-slice-aggregate-read
-slice-aggregate-read c = search needs
-
-slice-aggregate-read-2 : tie.Need-slice-aggregate-read-2
-slice-aggregate-read-2 c = search needs
-
-read-requires : tie.Need-read-requires
-read-requires c κs = search needs
+read-named-requires : tie.Need-read-named-requires
+read-named-requires c κs = search needs
 
 array-share-prefix-catalogue : tie.Need-array-share-prefix-catalogue
 array-share-prefix-catalogue c = search needs
@@ -43,12 +31,8 @@ pub index-spec : {M : Type 1} → statement M
 index-spec =
     tie.close
     (tie.spec
-    slice-aggregate-arg
-    arg-requires
-    array-share-prefix-name
-    slice-aggregate-read
-    slice-aggregate-read-2
-    read-requires
+    slice-aggregate-read-named
+    read-named-requires
     array-share-prefix-catalogue
     slice-aggregate-make
     slice-aggregate-make-2
