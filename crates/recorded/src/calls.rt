@@ -222,6 +222,19 @@ pub fn index(fd: i32, stars: &mut [u8], room: &mut [u8]) {
     print_end();
 }
 
+pub fn compare(fd: i32, bytes: &mut [u8], stars: &mut [u8], room: &mut [u8]) {
+    let s = expand(fd, 1, stars);
+    let t = expand(fd, 1, bytes);
+    let w = expand(fd, 1, room);
+    let before = bytes_checksum(&room[0..w]);
+    let mut out = [0i64; 64];
+    exports_compare::mnemathor_compare(&stars[0..s], &bytes[0..t], &mut room[0..w], &mut out);
+    print_call(17, &out, 3);
+    print_more(before);
+    print_more(bytes_checksum(&room[0..w]));
+    print_end();
+}
+
 fn print_ranking_by_index(
     directions: &[i32],
     stars: &[u8],

@@ -29,6 +29,7 @@ fn run(
         14 => gimbal::cosines(fd, bytes),
         15 => gimbal::turned(fd, bytes),
         16 => calls::lens(fd),
+        17 => calls::compare(fd, bytes, stars, index),
         8 => calls::chain(fd, bytes, samples, stars, room),
         _ => calls::reason(fd, bytes, samples),
     }

@@ -1,0 +1,2 @@
+-- The numbers that comparing two catalogues hands over. Assumes nothing.
+pub mod Compare
