@@ -3,6 +3,7 @@
 use crate::answer::{numbers, Numbers};
 use crate::burst::burst_within;
 use crate::chain::{chain_by_index_within, chain_within, Settings};
+use crate::compare::compare;
 use crate::float::{settled, Float};
 use crate::index::Index;
 use crate::lens::Plate;
@@ -27,9 +28,10 @@ pub enum Entry {
     Cosines,
     Turned,
     Lens,
+    Compare,
 }
 
-pub const ENTRIES: [Entry; 16] = [
+pub const ENTRIES: [Entry; 17] = [
     Entry::Verdict,
     Entry::List,
     Entry::Direction,
@@ -46,6 +48,7 @@ pub const ENTRIES: [Entry; 16] = [
     Entry::Cosines,
     Entry::Turned,
     Entry::Lens,
+    Entry::Compare,
 ];
 
 impl Entry {
@@ -67,6 +70,7 @@ impl Entry {
             Entry::Cosines => "cosines",
             Entry::Turned => "row by target",
             Entry::Lens => "lens",
+            Entry::Compare => "compare",
         }
     }
 
@@ -81,7 +85,7 @@ impl Entry {
 
     /// How many of the 64 numbers the recorded output shows.
     pub fn numbers_shown(self) -> usize {
-        [8, 30, 5, 3, 2, 11, 11, 47, 6, 3, 2, 47, 3, 2, 2, 3][self.index()]
+        [8, 30, 5, 3, 2, 11, 11, 47, 6, 3, 2, 47, 3, 2, 2, 3, 3][self.index()]
     }
 
     /// Whether plain Rust has this call too.
@@ -107,6 +111,7 @@ impl Entry {
             Entry::Cosines => &[23],
             Entry::Turned => &[],
             Entry::Lens => &[19],
+            Entry::Compare => &[6, 7, 20],
         }
     }
 
@@ -246,8 +251,10 @@ pub struct Call {
     pub vectors: Buffer<i64>,
     pub floor: i64,
     pub index: Buffer<u8>,
-    /// The room for an index to be built, or for a burst's records.
+    /// The room for an index to be built, for a burst's records, or for a list of changes.
     pub bytes: Buffer<u8>,
+    /// The second catalogue of two.
+    pub other: Buffer<u8>,
     pub matrix: Buffer<i64>,
     /// The room for the direction cosines, or the rows that a target is turned by.
     pub rows: Buffer<Float>,
@@ -267,6 +274,7 @@ pub struct Lent {
     pub vectors: Vec<i64>,
     pub index: Vec<u8>,
     pub bytes: Vec<u8>,
+    pub other: Vec<u8>,
     pub matrix: Vec<i64>,
     pub rows: Vec<Float>,
     pub target: Vec<Float>,
@@ -317,6 +325,7 @@ impl Call {
             floor: 0,
             index: Buffer::default(),
             bytes: Buffer::default(),
+            other: Buffer::default(),
             matrix: Buffer::default(),
             rows: Buffer::default(),
             target: Buffer::default(),
@@ -334,7 +343,7 @@ impl Call {
             Entry::Verdict | Entry::Reason => [&frame[..], &[self.row, self.column]].concat(),
             Entry::List => frame.to_vec(),
             Entry::Direction => [&optics[..], &[signed(self.x), signed(self.y)]].concat(),
-            Entry::Catalogue | Entry::Attitude | Entry::Cosines | Entry::Turned => vec![],
+            Entry::Catalogue | Entry::Attitude | Entry::Cosines | Entry::Turned | Entry::Compare => vec![],
             Entry::Ranking => vec![self.tolerance],
             Entry::Search => vec![self.needed, self.tolerance],
             Entry::Chain | Entry::Burst => [&frame[..], &optics, &[self.needed, self.tolerance]].concat(),
@@ -395,6 +404,11 @@ impl Call {
                 self.room.write(bytes);
                 self.bytes.write(bytes);
             }
+            Entry::Compare => {
+                self.catalogue.write(bytes);
+                self.other.write(bytes);
+                self.bytes.write(bytes);
+            }
             Entry::Cosines => {
                 self.matrix.write(bytes);
                 self.rows.write(bytes);
@@ -431,6 +445,7 @@ impl Call {
             vectors: self.vectors.values(),
             index: self.index.values(),
             bytes: self.bytes.values(),
+            other: self.other.values(),
             matrix: self.matrix.values(),
             rows: self.rows.values(),
             target: self.target.values(),
@@ -505,6 +520,7 @@ impl Call {
                 numbers(&Ok(()))
             }
             Entry::Lens => numbers(&self.lens.focal().map(|focal| focal as usize)),
+            Entry::Compare => numbers(&compare(&lent.catalogue, &lent.other, &mut lent.bytes)),
         };
         Ok(Outcome { out, lent })
     }
@@ -601,6 +617,7 @@ impl Call {
                 numbers(&Ok(()))
             }
             Entry::Lens => numbers(&plain::lens(lens).map(|focal| focal as usize)),
+            Entry::Compare => numbers(&plain::compare(&lent.catalogue, &lent.other, &mut lent.bytes)),
             Entry::Reason => panic!("plain Rust has no {}", self.entry.name()),
         }
     }
@@ -615,7 +632,7 @@ impl Call {
 
     /// Whether the call is lent a room of bytes to write in.
     pub fn writes_bytes(&self) -> bool {
-        matches!(self.entry, Entry::Index | Entry::Burst)
+        matches!(self.entry, Entry::Index | Entry::Burst | Entry::Compare)
     }
 
     /// The floats that the call was lent room for, as they are after it.

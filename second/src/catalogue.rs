@@ -3,7 +3,7 @@
 use crate::answer::Refusal;
 use crate::{dot, UNIT};
 
-const RECORD_BYTES: usize = 16;
+pub const RECORD_BYTES: usize = 16;
 const MOST_RECORDS: usize = 512;
 
 #[derive(Debug, Clone, Copy, PartialEq, Eq)]

@@ -1,9 +1,10 @@
 //! Damage that gives each refusal, in each of its ways.
 
 use crate::call::{Buffer, Call, Entry};
+use crate::compare;
 use crate::float::{negated, of_whole, INFINITY};
 use crate::generate::{
-    index_bytes, mirrored_catalogue, pixels, FARTHEST_ENTRY, HUGE, MOST_TOLERANCE, NON_NUMBERS,
+    index_bytes, list_length, mirrored_catalogue, pixels, FARTHEST_ENTRY, HUGE, MOST_TOLERANCE, NON_NUMBERS,
 };
 use crate::index::RECORD_BYTES;
 use crate::lens::{Plate, MILLIMETRES};
@@ -39,8 +40,10 @@ pub fn damage(call: &mut Call, reason: u8, random: &Random) {
         }
         5 => damage_settings(call, random),
         19 => damage_lens(call, random),
-        6 => damage_catalogue_length(call, random),
-        7 => damage_record(call, random),
+        6 | 7 => {
+            let second = call.entry == Entry::Compare && random.chance(50);
+            damage_catalogue(if second { &mut call.other } else { &mut call.catalogue }, reason, random);
+        }
         8 => damage_vectors(call, random),
         9 => match random.chance(50) && !matches!(call.entry, Entry::Ranking | Entry::RankingByIndex) {
             true => {
@@ -68,21 +71,32 @@ pub fn damage(call: &mut Call, reason: u8, random: &Random) {
         },
         16 => {
             let full = index_bytes(&call.catalogue.values(), call.floor).len();
-            let short = [full.saturating_sub(1), full.saturating_sub(RECORD_BYTES), full / 2, 0];
-            call.bytes = call.bytes.resized(random.pick(&short).min(call.bytes.len));
+            shorten(&mut call.bytes, full, RECORD_BYTES, random);
         }
         17 => damage_index(call, random),
         18 => {
             let short = [call.bytes.len.saturating_sub(81), call.bytes.len / 2, 79, 0];
             call.bytes = call.bytes.resized(random.pick(&short).min(call.bytes.len));
         }
-        23 => {
-            let beyond = [FARTHEST_ENTRY + 1, i64::MAX, (1 << 32) + 5 + FARTHEST_ENTRY];
-            let entry = random.pick(&beyond) * random.pick(&[1, -1]);
-            call.matrix.set(random.below(9), random.pick(&[entry, entry, i64::MIN]));
+        20 => {
+            let full = list_length(&call.catalogue.values(), &call.other.values());
+            shorten(&mut call.bytes, full, compare::RECORD_BYTES, random);
         }
+        23 => damage_matrix(call, random),
         _ => {}
     }
+}
+
+/// Makes the room shorter than the records that are to stand in it.
+fn shorten(room: &mut Buffer<u8>, full: usize, record: usize, random: &Random) {
+    let short = [full.saturating_sub(1), full.saturating_sub(record), full / 2, 0];
+    *room = room.resized(random.pick(&short).min(room.len));
+}
+
+fn damage_matrix(call: &mut Call, random: &Random) {
+    let beyond = [FARTHEST_ENTRY + 1, i64::MAX, (1 << 32) + 5 + FARTHEST_ENTRY];
+    let entry = random.pick(&beyond) * random.pick(&[1, -1]);
+    call.matrix.set(random.below(9), random.pick(&[entry, entry, i64::MIN]));
 }
 
 fn damage_sample_count(call: &mut Call, random: &Random) {
@@ -126,8 +140,17 @@ fn damage_lens(call: &mut Call, random: &Random) {
     }
 }
 
-fn damage_catalogue_length(call: &mut Call, random: &Random) {
-    let len = call.catalogue.len;
+/// Makes the catalogue break rule 6 or 7.
+pub fn damage_catalogue(catalogue: &mut Buffer<u8>, reason: u8, random: &Random) {
+    match reason {
+        6 => damage_catalogue_length(catalogue, random),
+        7 => damage_record(catalogue, random),
+        _ => {}
+    }
+}
+
+fn damage_catalogue_length(catalogue: &mut Buffer<u8>, random: &Random) {
+    let len = catalogue.len;
     let wanted = match random.below(4) {
         0 => 0,
         1 => len.saturating_sub(1 + random.below(15)),
@@ -135,15 +158,15 @@ fn damage_catalogue_length(call: &mut Call, random: &Random) {
         _ => {
             // One record over and over; that they are too many comes before their equal identities.
             let record = sky::record(5, sky::anywhere(random));
-            call.catalogue = Buffer::repeat(16 * random.pick(&[513, 520]), &record);
+            *catalogue = Buffer::repeat(16 * random.pick(&[513, 520]), &record);
             return;
         }
     };
-    call.catalogue = call.catalogue.resized(wanted.min(16 * 520));
+    *catalogue = catalogue.resized(wanted.min(16 * 520));
 }
 
-fn damage_record(call: &mut Call, random: &Random) {
-    let records = call.catalogue.len / 16;
+fn damage_record(catalogue: &mut Buffer<u8>, random: &Random) {
+    let records = catalogue.len / 16;
     if records == 0 {
         return;
     }
@@ -153,27 +176,27 @@ fn damage_record(call: &mut Call, random: &Random) {
         match random.below(5) {
             0 if record > 0 => {
                 // The identity of the record before, or one less than it, or 0.
-                let before = word_at(&call.catalogue, at - 16);
+                let before = word_at(catalogue, at - 16);
                 let identity = random.pick(&[before, before.wrapping_sub(1), 0]);
-                set_word(&mut call.catalogue, at, identity);
+                set_word(catalogue, at, identity);
             }
-            1 if record + 1 < records => set_word(&mut call.catalogue, at, u32::MAX),
+            1 if record + 1 < records => set_word(catalogue, at, u32::MAX),
             2 => {
                 // Turned into the longest or shortest direction allowed, or one beyond.
                 let mut star = random.pick(&[sky::LONGEST, sky::SHORTEST, sky::TOO_LONG, sky::TOO_SHORT]);
                 random.shuffle(&mut star);
-                set_star(&mut call.catalogue, at, star);
+                set_star(catalogue, at, star);
             }
             3 => {
                 // Near enough in length, but one component is too large.
                 let mut star = [random.pick(&[1_000_000_001, -1_000_000_001, i32::MIN, i32::MAX]), 0, 0];
                 random.shuffle(&mut star);
-                set_star(&mut call.catalogue, at, star);
+                set_star(catalogue, at, star);
             }
             _ => {
                 let place = at + random.below(16);
-                let byte = call.catalogue.get(place);
-                call.catalogue.set(place, byte ^ (1 << random.below(8)));
+                let byte = catalogue.get(place);
+                catalogue.set(place, byte ^ (1 << random.below(8)));
             }
         }
     }

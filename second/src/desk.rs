@@ -1,6 +1,7 @@
 //! What the desk prints for the people on the ground.
 
 use crate::answer::{Reason, Refusal, Side};
+use crate::compare::{changes, Change};
 use crate::listing::refused;
 use crate::{files, frame, index};
 
@@ -47,4 +48,21 @@ pub fn index(catalogue: &[u8], floor: i64) -> (String, Option<Vec<u8>>) {
         }
         Err(refusal) => (refused(refusal), None),
     }
+}
+
+/// A line for each star that is not the same in both catalogues; nothing where they are equal.
+pub fn compare(old: &[u8], new: &[u8]) -> String {
+    match changes(old, new) {
+        Ok(changes) => changes.iter().map(|&(identity, change)| change_line(identity, change)).collect(),
+        Err(refusal) => refused(refusal),
+    }
+}
+
+fn change_line(identity: u32, change: Change) -> String {
+    let name = match change {
+        Change::Removed => "removed",
+        Change::Added => "added",
+        Change::Changed => "changed",
+    };
+    format!("{name} {identity}\n")
 }

@@ -8,9 +8,11 @@ use crate::random::Random;
 use crate::sky::{self, Turn};
 use crate::{catalogue, direction, dot, frame, index, ranking};
 
+mod compare;
 mod gimbal;
 mod lens;
 
+pub use compare::*;
 pub use gimbal::*;
 pub use lens::*;
 
@@ -473,6 +475,7 @@ pub fn any_call(random: &Random, entry: Entry) -> Call {
         Entry::Cosines => any_cosines(random),
         Entry::Turned => any_turned(random),
         Entry::Lens => any_lens(random),
+        Entry::Compare => any_compare(random),
     };
     if random.chance(35) && !entry.faults().is_empty() {
         for _ in 0..random.pick(&[1, 1, 1, 2, 3]) {

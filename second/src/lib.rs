@@ -10,6 +10,7 @@ pub mod attitude;
 pub mod burst;
 pub mod catalogue;
 pub mod chain;
+pub mod compare;
 pub mod desk;
 pub mod direction;
 pub mod files;

@@ -179,6 +179,16 @@ extern "C" {
         out_len: usize,
     );
     fn mnemathor_lens(kind: u32, first: f64, second: f64, out: *mut i64, out_len: usize);
+    fn mnemathor_compare(
+        first: *const u8,
+        first_len: usize,
+        second: *const u8,
+        second_len: usize,
+        room: *mut u8,
+        room_len: usize,
+        out: *mut i64,
+        out_len: usize,
+    );
 }
 
 /// Makes the call with the buffers lent and this room for the numbers. All buffers are lent as memory that
@@ -195,6 +205,7 @@ pub fn run(call: &Call, lent: &mut Lent, out: &mut [i64]) {
     let vectors = (lent.vectors.as_mut_ptr(), lent.vectors.len());
     let index = (lent.index.as_mut_ptr(), lent.index.len());
     let bytes = (lent.bytes.as_mut_ptr(), lent.bytes.len());
+    let other = (lent.other.as_mut_ptr(), lent.other.len());
     let matrix = (lent.matrix.as_mut_ptr(), lent.matrix.len());
     let rows = floats(&mut lent.rows);
     let target = floats(&mut lent.target);
@@ -325,6 +336,9 @@ pub fn run(call: &Call, lent: &mut Lent, out: &mut [i64]) {
                 mnemathor_turned(rows.0, rows.1, target.0, target.1, turned.0, turned.1, out.0, out.1)
             }
             Entry::Lens => mnemathor_lens(kind, first, second, out.0, out.1),
+            Entry::Compare => {
+                mnemathor_compare(catalogue.0, catalogue.1, other.0, other.1, bytes.0, bytes.1, out.0, out.1)
+            }
         }
     }
 }

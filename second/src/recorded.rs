@@ -10,6 +10,7 @@ use crate::random::Random;
 use crate::search::Effort;
 use crate::sky::{self, record};
 
+mod compare;
 mod gimbal;
 mod lens;
 
@@ -51,6 +52,7 @@ pub fn calls() -> Vec<Call> {
             Entry::Cosines => gimbal::matrices(&random, &mut calls),
             Entry::Turned => gimbal::targets(&random, &mut calls),
             Entry::Lens => lens::plates(&random, &mut calls),
+            Entry::Compare => compare::pairs(&random, &mut calls),
         }
     }
     calls

@@ -314,3 +314,19 @@ unsafe extern "C" fn mnemathor_turned(
 unsafe extern "C" fn mnemathor_lens(kind: u32, first: f64, second: f64, out: *mut i64, out_len: usize) {
     answer(out, out_len, || plain::lens(plain::Plate { kind, first, second }).map(|focal| focal as usize));
 }
+
+#[no_mangle]
+unsafe extern "C" fn mnemathor_compare(
+    first: *const u8,
+    first_len: usize,
+    second: *const u8,
+    second_len: usize,
+    room: *mut u8,
+    room_len: usize,
+    out: *mut i64,
+    out_len: usize,
+) {
+    let (first, second) = (from_raw_parts(first, first_len), from_raw_parts(second, second_len));
+    let room = from_raw_parts_mut(room, room_len);
+    answer(out, out_len, || plain::compare(first, second, room));
+}

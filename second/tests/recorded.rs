@@ -58,7 +58,7 @@ impl Reader<'_> {
         self.buffer(1, 16 * 520).into_iter().map(|n| n as u8).collect()
     }
 
-    /// An index, or a room for one or for a burst's records.
+    /// An index, or a room for one, for a burst's records or for a list of changes.
     fn bytes(&mut self) -> Vec<u8> {
         self.buffer(1, 12_288).into_iter().map(|n| n as u8).collect()
     }
@@ -115,6 +115,11 @@ impl Reader<'_> {
                 assert_eq!(self.words(), lent.room);
                 assert_eq!(self.bytes(), lent.bytes);
             }
+            Entry::Compare => {
+                assert_eq!(self.catalogue(), lent.catalogue);
+                assert_eq!(self.catalogue(), lent.other);
+                assert_eq!(self.bytes(), lent.bytes);
+            }
             Entry::Cosines => {
                 assert_eq!(self.buffer(8, 9), lent.matrix);
                 assert_eq!(self.floats(), lent.rows);
@@ -129,7 +134,7 @@ impl Reader<'_> {
 }
 
 fn scalar_count(entry: Entry) -> usize {
-    [5, 3, 7, 0, 1, 2, 0, 10, 5, 1, 2, 11, 10, 0, 0, 3][entry.index()]
+    [5, 3, 7, 0, 1, 2, 0, 10, 5, 1, 2, 11, 10, 0, 0, 3, 0][entry.index()]
 }
 
 #[test]

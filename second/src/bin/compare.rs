@@ -23,7 +23,7 @@ const DIFFERENCES_SHOWN: u64 = 5;
 /// No call of the library may take more stack than this.
 const STACK: usize = 64 * 1024;
 /// Calls of each entry point in a round: more of the quick ones.
-const CALLS_A_ROUND: [usize; ENTRIES.len()] = [4, 2, 8, 4, 2, 4, 8, 1, 4, 2, 2, 1, 1, 8, 16, 16];
+const CALLS_A_ROUND: [usize; ENTRIES.len()] = [4, 2, 8, 4, 2, 4, 8, 1, 4, 2, 2, 1, 1, 8, 16, 16, 4];
 
 #[derive(Default, Clone, Copy)]
 struct Count {
@@ -156,6 +156,7 @@ impl Run {
         show_buffer("samples", &lent.samples);
         show_buffer("directions", &lent.directions);
         show_buffer("catalogue", &lent.catalogue);
+        show_buffer("second catalogue", &lent.other);
         show_buffer("ranking", &lent.ranking);
         show_buffer("vectors", &lent.vectors);
         show_buffer("index", &lent.index);
@@ -228,6 +229,7 @@ fn first_difference(expected: &[i64], expected_memory: &Lent, out: &[i64], lent:
         .or_else(|| buffer_difference("vector number", &expected_memory.vectors, &lent.vectors))
         .or_else(|| buffer_difference("index byte", &expected_memory.index, &lent.index))
         .or_else(|| buffer_difference("byte", &expected_memory.bytes, &lent.bytes))
+        .or_else(|| buffer_difference("second catalogue's byte", &expected_memory.other, &lent.other))
         .or_else(|| buffer_difference("matrix entry", &expected_memory.matrix, &lent.matrix))
         .or_else(|| buffer_difference("row float", &expected_memory.rows, &lent.rows))
         .or_else(|| buffer_difference("target float", &expected_memory.target, &lent.target))

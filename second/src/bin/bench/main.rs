@@ -5,6 +5,7 @@
 
 mod bursts;
 mod clock;
+mod compares;
 mod frames;
 mod gimbals;
 mod indexes;
@@ -32,7 +33,13 @@ fn main() -> ExitCode {
 /// A further kind of input is one more list of names and calls.
 fn rows(part: &str) -> bool {
     let random = Random::new(2_024);
-    let single = [frames::inputs(&random), rankings::inputs(&random), hard::searches(&random)].concat();
+    let single = [
+        frames::inputs(&random),
+        rankings::inputs(&random),
+        hard::searches(&random),
+        compares::inputs(&random),
+    ]
+    .concat();
     let mut inputs: Vec<_> = single.into_iter().map(|(name, call)| (name, vec![call])).collect();
     inputs.extend(bursts::inputs(&random));
     inputs.extend(gimbals::inputs(&random));
