@@ -3,3 +3,4 @@ pub mod Verdict
 pub mod Inside
 pub mod Bright
 pub mod Laws
+pub mod Apart
