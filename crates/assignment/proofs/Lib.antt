@@ -4,5 +4,6 @@ pub mod Search
 pub mod Unique
 pub mod Pruning
 pub mod Fit
+pub mod Rival
 pub mod Pigeon
 pub mod Run

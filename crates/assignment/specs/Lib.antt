@@ -4,4 +4,5 @@ pub mod Tests
 pub mod Problem
 pub mod Pruning
 pub mod Fit
+pub mod Rival
 pub mod Run

@@ -1,0 +1,3 @@
+-- The lemmas that the proofs share.
+mod Words
+mod Others
