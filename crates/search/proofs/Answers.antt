@@ -27,14 +27,15 @@ use Rattle.catalogue.specs.Valid.{Valid}
 use Rattle.catalogue.specs.CheckLaws.{accepted-valid}
 use Rattle.catalogue.specs.ValidStars.{valid-length, valid-within}
 use Rattle.fit.specs.declared.Setup.{Setup}
-use Rattle.search.specs.declared.Answer.{Answer}
+use Rattle.backtrack.specs.declared.Answer.{Answer}
 use Rattle.search.specs.declared.Identification.{Identification}
 use Rattle.fit.specs.Fit.{rankingOf, setupOf, FitsHere, problem}
-use Rattle.search.specs.First.{Input, FirstFit}
+use Rattle.backtrack.specs.Input.{Input}
+use Rattle.search.specs.First.{FirstFit}
 use Rattle.search.specs.Refusals.{refusalsOf}
 use Rattle.search.specs.Identified.{refusedWith, noFit, accepted, setupFor, Searched, answerOf, Identified, padTo, foundOf, identificationOf}
 use Rattle.fit.proofs.Rules.{problem-local, first-passes}
-use Rattle.search.proofs.Words.{zeros-at}
+use Rattle.backtrack.proofs.Words.{zeros-at}
 use Rattle.search.proofs.Once.{good-ranked}
 use Rattle.search.proofs.Rejected.{Asked, all-accepted, accepted-ranked}
 

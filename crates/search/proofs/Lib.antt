@@ -1,6 +1,4 @@
 -- The lemmas that several proofs share.
-pub mod Words
-pub mod Rows
 pub mod Once
 pub mod Seen
 pub mod Rejected

@@ -18,7 +18,7 @@ use Rattle.assignment.proofs.Pigeon.{Into, onto}
 use Rattle.search.specs.declared.Judgement.the-variants.{Good, Bad}
 use Rattle.fit.specs.Fit.{rankingOf}
 use Rattle.search.specs.Once.{word, clash, clashAt, judged, lentOf}
-use Rattle.search.proofs.Rows.{row-fits}
+use Rattle.backtrack.proofs.Rows.{row-fits}
 
 -- ---- one word
 

@@ -17,7 +17,7 @@ use Rattle.catalogue.specs.Stars.{starsOf}
 use Rattle.assignment.specs.Order.{FirstOf, at}
 use Rattle.assignment.specs.Run as run
 use Rattle.fit.specs.declared.Setup.{Setup}
-use Rattle.search.specs.declared.Answer.{Answer}
+use Rattle.backtrack.specs.declared.Answer.{Answer}
 use Rattle.search.specs.declared.Identification.{Identification}
 use Rattle.fit.specs.Fit.{rankingOf, FitsHere, problem}
 use Rattle.search.specs.Refusals.{refusalsOf}

@@ -1,27 +1,21 @@
 // The search: which star each direction is, by a ranking that is handed in.
-mod backtrack;
 mod lent;
 mod refused;
-mod row;
 
-use fit::Setup;
+use backtrack::Answer;
+use backtrack::Sought;
 use refusal::Outcome;
 ghost use mathlib.Core.Path.{_≡_};
 ghost use Rattle.search.specs.Refusals.{demandOk};
 ghost use Rattle.fit.specs.Fit.{setupOf};
-ghost use Rattle.search.specs.First.{Input, FirstFit};
+ghost use Rattle.backtrack.specs.Input.{Input};
+ghost use Rattle.search.specs.First.{FirstFit};
 ghost use Rattle.search.specs.Identified.{answerOf, Identified, identificationOf};
 
 // Whether a ranking that is handed in names each star once a row, or the place of its first word that does not belong.
 pub enum Judgement {
     Good,
     Bad(usize),
-}
-
-// Whether an assignment was found, and its words: for each direction the star's record number, or the number of stars for none.
-pub struct Answer {
-    pub found: bool,
-    pub stars: [u16; 8],
 }
 
 // What the search answers: whether the call is accepted, and the words of the assignment, 0 behind the directions and where it is refused.
@@ -48,24 +42,11 @@ fn first_fit(
     requires { ⌜ Input (setupOf (now directions) (now stars) needed tolerance) (now ranking) (now directions) (now stars) ⌝ }
     ensures { λ r. ⌜ FirstFit (setupOf (now (directions .entry)) (now (stars .entry)) needed tolerance) (now (ranking .entry)) (now (directions .entry)) (now (stars .entry)) r ⌝ }
 {
-    let setup = Setup {
-        dirs: directions.len() / 3,
-        stars: stars.len() / 3,
-        needed: needed,
-        tolerance: tolerance,
+    let all = Sought {
+        rival: false,
+        ours: [0u16; 8],
     };
-    let pairs = lookahead::pairs::marks(directions, stars, setup);
-    backtrack::place(
-        ranking,
-        directions,
-        stars,
-        setup,
-        pairs,
-        [0u16; 8],
-        [1u8; 8],
-        0,
-        0,
-    )
+    backtrack::first(ranking, directions, stars, needed, tolerance, all)
 }
 
 // The words of an assignment that was found, or refusal 13.

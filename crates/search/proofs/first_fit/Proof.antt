@@ -1,30 +1,16 @@
--- `search::first_fit` meets its contract: `place` at direction 0 says it, and the rule's law carries it to the fit. Assumes nothing.
+-- `search::first_fit` meets its contract: where no rival is sought, what passes is what fits. Assumes nothing.
 use borrow.Author.Needs.{needs}
-use mathlib.Core.Path.{_∙_}
-use Rattle.assignment.proofs.Search.{start, whole}
-use Rattle.fit.specs.Fit.{setupOf}
 use Rattle.fit.proofs.Rules.{first-fits}
-use Rattle.lookahead.proofs.Marks.{ones-closed}
-use Rattle.search.proofs.Words.{zeros-at, same-length}
 use Rattle.search.proofs.first_fit.Statement.{statement}
 use Rattle.search.proofs.first_fit.Tie as tie
 
-marks-requires : tie.Need-marks-requires
-marks-requires c κs = c .before .pre .lists
-
-place-requires : tie.Need-place-requires
-place-requires c κs =
-    let o = c .before .before in
-    let a = o .args in
-    (o .pre, (start _ _, (ones-closed _ _ _ (o .pre .lists .few), c .marks .ensures .right (a .ranking .now) 0 _)))
+first-requires : tie.Need-first-requires
+first-requires c κs = search needs
 
 returns : tie.Need-returns
 returns c =
-    record {
-      first = first-fits _ (c .before .before .before .args .ranking .now) _ _ _ _ (whole _ _ _ _ (c .place .ensures));
-      rest = λ q k l. c .place .ensures .rest q k l ∙ zeros-at 8 k;
-      size = same-length (c .place .result .stars) (c .place .ok .1 .1 .1 .0 .1 .0 .1);
-    }
+    let f = c .first .ensures in
+    record { first = first-fits _ (c .before .before .args .ranking .now) _ _ _ _ (f .first); rest = f .rest; size = f .size }
 
 pub first-fit-spec : {M : Type 1} → statement M
-first-fit-spec = tie.close (tie.spec marks-requires place-requires returns)
+first-fit-spec = tie.close (tie.spec first-requires returns)
