@@ -2,23 +2,22 @@
 -- Assumes nothing.
 use mathlib.Core.Path.{_≡_, refl, sym, _∙_, ap, subst}
 use mathlib.Core.Bool.{Bool, true, false, cond}
-use mathlib.Core.List.{List, [], _∷_}
+use mathlib.Core.List.{List}
 use mathlib.Core.Logic.{inl, inr, ⊎-elim}
-use Prim.Native.Nat.{ℕ, zero, suc, _≤_, _<_}
+use Prim.Native.Nat.{ℕ}
 use native.Mathlib.Omega.{arith}
 use lib.IntN.{ℤ}
-use lib.ListN.{length, getD, replicate}
-use lib.Seq.{ext-getD}
+use lib.ListN.{replicate}
 use Rattle.counting.specs.Contradiction.{contradiction}
 use Rattle.refusal.specs.declared.Refusal.{Refusal}
 use Rattle.refusal.specs.declared.Outcome.{Outcome}
 use Rattle.refusal.specs.declared.Outcome.the-variants.{Accepted, Refused}
 use Rattle.refusal.specs.Table.{Row, lowest, answered}
-use Rattle.assignment.specs.Order.{Ranked, FirstOf, Same}
+use Rattle.assignment.specs.Order.{Ranked, FirstOf}
 use Rattle.assignment.specs.Problem.{Problem, order, Passing}
 use Rattle.assignment.specs.Run.{nothing, fit, isFit, words, firstFit}
 use Rattle.assignment.specs.Run as computed
-use Rattle.assignment.proofs.Tests.{never, le-or-lt}
+use Rattle.assignment.proofs.Tests.{never}
 use Rattle.assignment.proofs.Run as run
 use Rattle.direction.specs.ListLaws.{directionsIn, ok-directions}
 use Rattle.catalogue.specs.Format.{recordsIn}
@@ -36,24 +35,9 @@ use Rattle.search.specs.Refusals.{refusalsOf}
 use Rattle.search.specs.Identified.{refusedWith, noFit, accepted, setupFor, Searched, answerOf, Identified, padTo, foundOf, identificationOf}
 use Rattle.fit.proofs.Rules.{problem-local, first-passes}
 use Rattle.backtrack.proofs.Words.{zeros-at}
+use Rattle.search.proofs.Padded.{padded}
 use Rattle.search.proofs.Once.{good-ranked}
 use Rattle.search.proofs.Rejected.{Asked, all-accepted, accepted-ranked}
-
--- ---- words with zeros behind them
-
-pub pad-length : (n : ℕ) (xs : List ℕ) → length (padTo n xs) ≡ n
-unfolding padTo
-pad-length zero xs = refl
-pad-length (suc n) [] = ap suc (pad-length n [])
-pad-length (suc n) (x ∷ xs) = ap suc (pad-length n xs)
-
-pub pad-at : (n : ℕ) (xs : List ℕ) (k : ℕ) → k < n → getD (padTo n xs) k 0 ≡ getD xs k 0
-unfolding padTo
-pad-at zero xs k l = absurd (omega arith)
-pad-at (suc n) [] zero l = refl
-pad-at (suc n) [] (suc k) l = pad-at n [] k (omega arith)
-pad-at (suc n) (x ∷ xs) zero l = refl
-pad-at (suc n) (x ∷ xs) (suc k) l = pad-at n xs k (omega arith)
 
 -- ---- the answer of a search
 
@@ -86,23 +70,15 @@ module _ (s : Setup) (ws : List ℕ) (directions stars : List ℤ) (R : Ranked (
   is-accepted : isFit (firstFit p) ≡ true → r .outcome ≡ Accepted
   is-accepted e = ⊎-elim (λ (a : r .outcome ≡ Accepted). a) (λ (b : r ≡ refusedWith noFit). never (sym (ap (λ (i : Identification). accepted (i .outcome)) b) ∙ verdict ∙ e)) (S .settled)
 
-  same-words : isFit (firstFit p) ≡ true → Same (s .dirs) (r .stars) (words (firstFit p))
-  same-words e = run.the-words p R (problem-local s ws directions stars) (r .stars) (subst (λ (b : Bool). FirstOf (order p) (Passing p) b (r .stars)) (verdict ∙ e) passing)
-
-  padded : isFit (firstFit p) ≡ true → r .stars ≡ padTo 8 (words (firstFit p))
-  padded e =
-      ext-getD 0 (r .stars) (padTo 8 (words (firstFit p))) (S .size ∙ sym (pad-length 8 (words (firstFit p))))
-      (λ k l. ⊎-elim
-      (λ (h : s .dirs ≤ k). S .rest k h ∙ sym (run.firstFit-rest p R (problem-local s ws directions stars) e k h) ∙ sym (pad-at 8 (words (firstFit p)) k (omega (arith, S .size))))
-      (λ (h : k < s .dirs). sym (same-words e k h) ∙ sym (pad-at 8 (words (firstFit p)) k (omega (arith, S .size))))
-      (le-or-lt (s .dirs) k))
+  same-words : isFit (firstFit p) ≡ true → r .stars ≡ padTo 8 (words (firstFit p))
+  same-words e = padded p R (problem-local s ws directions stars) (accepted (r .outcome)) (r .stars) passing (λ _. S .rest) (S .size) e
 
   pub searched-found : r ≡ foundOf (firstFit p)
   searched-found = by (firstFit p) refl
     where
       by : (a : computed.Answer) → firstFit p ≡ a → r ≡ foundOf a
       by nothing e = none-found (ap isFit e)
-      by (fit xs) e = λ i. record { outcome = is-accepted (ap isFit e) i; stars = (padded (ap isFit e) ∙ ap (λ (a : computed.Answer). padTo 8 (words a)) e) i }
+      by (fit xs) e = λ i. record { outcome = is-accepted (ap isFit e) i; stars = (same-words (ap isFit e) ∙ ap (λ (a : computed.Answer). padTo 8 (words a)) e) i }
 
 -- ---- every call
 

@@ -2,5 +2,6 @@
 pub mod Once
 pub mod Seen
 pub mod Rejected
+pub mod Padded
 pub mod Answers
 pub mod Promise
