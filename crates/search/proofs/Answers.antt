@@ -100,7 +100,7 @@ module _ (directions : List ℤ) (bytes : List ℕ) (needed tolerance : ℕ) (ws
     abbrev asked : Asked directions (recordsIn bytes) needed tolerance ws
     asked = all-accepted directions bytes needed tolerance ws e .1
 
-    same-setup : setupOf directions (starsOf bytes) needed tolerance ≡ setupFor directions bytes needed tolerance
+    pub same-setup : setupOf directions (starsOf bytes) needed tolerance ≡ setupFor directions bytes needed tolerance
     same-setup = ap (λ (n : ℕ). record { dirs = directionsIn directions; stars = n; needed = needed; tolerance = tolerance }) (omega (arith, valid-length bytes valid))
 
     pub handed : Input (setupOf directions (starsOf bytes) needed tolerance) ws directions (starsOf bytes)
