@@ -1,0 +1,2 @@
+-- What the answers say.
+pub mod Answers
