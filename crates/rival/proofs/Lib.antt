@@ -1,2 +1,3 @@
 -- What the answers say.
 pub mod Answers
+pub mod Promise
