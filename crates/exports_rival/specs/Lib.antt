@@ -1,0 +1,2 @@
+-- The numbers that the call hands over. Assumes nothing.
+pub mod Rival
