@@ -27,7 +27,7 @@ fn settings_outcome(settings: Settings) -> Outcome
 }
 
 // 6 and 7.
-pub(crate) fn catalogue_outcome(bytes: &[u8]) -> Outcome
+pub fn catalogue_outcome(bytes: &[u8]) -> Outcome
     ensures { λ r. ⌜ r ≡ lowest (refusalsOf (now (bytes .entry))) ⌝ }
 {
     match catalogue::check(bytes) {
