@@ -1,13 +1,14 @@
 -- The frame file: a sample has 2 bytes, high byte first; there are exactly width x height, and no more than 32,000. Assumes nothing.
 use mathlib.Core.Bool.{Bool, true, false, cond, _&&_, and-eq-true-iff}
 use mathlib.Core.List.{List, [], _∷_, _++_}
-use mathlib.Core.Path.{_≡_, refl}
+use mathlib.Core.Path.{_≡_, refl, ap, _∙_}
 use borrow.Author.Tests.{leb-true, eqb-true, le-leb, lt-leb}
 use Prim.Native.Nat.{ℕ, zero, suc, _+_, _*_, _≤_, _<_}
 use native.Mathlib.Omega.{arith}
 use native.Mathlib.Numerals.{add-one}
 use lib.Dec.{leb, eqb}
-use lib.ListN.{length, length-append}
+use lib.ListN.{length, take, replicate, length-append, length-replicate}
+use lib.Seq.{take-at}
 use Rattle.words.specs.Number.{numberAt}
 
 -- how many samples a file of this length holds: none where the length is another, or where there are too many
@@ -52,3 +53,16 @@ counted p true len n e =
 pub count-fits : (len width height : ℕ) → (2 * sampleCount len width height ≤ len) × (sampleCount len width height ≤ 32000)
 unfolding sampleCount
 count-fits len width height = counted (leb width 1024 && leb height 1024) _ len (width * height) refl
+
+-- a room whose front the samples fill: that part of it is theirs
+pub lent-within : (room bytes rest : List ℕ) (n : ℕ) → room ≡ samplesOf bytes n ++ rest → n ≤ length room
+lent-within room bytes rest n e = omega (arith, ap length e, length-append (samplesOf bytes n) rest, samples-length bytes n)
+
+-- and a room of 32,000 takes every frame file's
+pub lent-samples : (room bytes rest : List ℕ) (n width height : ℕ) → room ≡ samplesOf bytes n ++ rest → n ≡ takenInto (length (replicate {A = ℕ} 32000 0)) (sampleCount (length bytes) width height)
+    → take n room ≡ samplesOf bytes (sampleCount (length bytes) width height)
+lent-samples room bytes rest n width height e q =
+    let count = sampleCount (length bytes) width height in
+    ap (take n) e
+    ∙ take-at (samplesOf bytes n) rest n (samples-length bytes n)
+    ∙ ap (samplesOf bytes) (q ∙ ap (λ (k : ℕ). takenInto k count) (length-replicate {A = ℕ} 32000 0) ∙ taken-whole 32000 count (count-fits (length bytes) width height .1))

@@ -1,5 +1,5 @@
 // The listing of document 01: the whole answer to three files, accepted or refused, as bytes in a lent room.
-mod lines;
+pub mod lines;
 
 use files::Reading;
 use refusal::Outcome;

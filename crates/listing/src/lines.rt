@@ -100,6 +100,23 @@ fn at_most_eight(count: usize) -> usize
     }
 }
 
+// A line for each listed star.
+pub fn stars(
+    room: &mut [u8],
+    at: usize,
+    report: Report,
+    words: [u16; 8],
+    names: bool,
+    catalogue: &[u8],
+) -> usize
+    ensures { λ r. ⌜ Wrote (now (room .entry)) at (starLines (report .stars) (shownIn names (now (catalogue .entry)) words) (min 8 (report .count))) (now (room .exit)) r ⌝ }
+    ensures { λ r. ⌜ r ≤ at + 840 ⌝ }
+{
+    let stars = report.stars;
+    let count = at_most_eight(report.count);
+    star_lines(room, at, stars, count, words, names, catalogue)
+}
+
 // The counts, and a line for each listed star.
 pub(crate) fn report(
     room: &mut [u8],
@@ -113,9 +130,7 @@ pub(crate) fn report(
     ensures { λ r. ⌜ r ≤ at + 922 ⌝ }
 {
     let first = counts(room, at, report);
-    let stars = report.stars;
-    let count = at_most_eight(report.count);
-    star_lines(room, first, stars, count, words, names, catalogue)
+    stars(room, first, report, words, names, catalogue)
 }
 
 // A row of the matrix.

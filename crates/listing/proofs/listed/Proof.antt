@@ -1,39 +1,24 @@
 -- `listing::listed` meets its contract: the part of the array that is lent is the frame file's samples. Assumes nothing.
 use borrow.Author.Needs.{needs}
-use mathlib.Core.Path.{_≡_, sym, ap, _∙_, subst}
-use mathlib.Core.List.{List, _++_}
+use mathlib.Core.Path.{_≡_, sym, subst}
+use mathlib.Core.List.{List}
 use Prim.Native.Nat.{ℕ, _≤_}
-use native.Mathlib.Omega.{arith}
-use lib.ListN.{length, take, length-append, length-replicate}
-use lib.Seq.{take-at, length-take-le}
-use Rattle.files.specs.Samples.{sampleCount, takenInto, taken-whole, samplesOf, samples-length, count-fits}
+use lib.ListN.{length, take}
+use lib.Seq.{length-take-le}
+use Rattle.files.specs.Samples.{lent-within, lent-samples}
 use Rattle.text.specs.Written.{Wrote}
 use Rattle.listing.specs.Listing.{chainOn, samplesIn, answerText}
 use Rattle.listing.proofs.listed.Statement.{statement}
 use Rattle.listing.proofs.listed.Tie as tie
 
-within-room : (room bytes rest : List ℕ) (n : ℕ) → room ≡ samplesOf bytes n ++ rest → n ≤ length room
-within-room room bytes rest n e = omega (arith, ap length e, length-append (samplesOf bytes n) rest, samples-length bytes n)
-
-at-front : (room bytes rest : List ℕ) (n : ℕ) → room ≡ samplesOf bytes n ++ rest → take n room ≡ samplesOf bytes n
-at-front room bytes rest n e = ap (take n) e ∙ take-at (samplesOf bytes n) rest n (samples-length bytes n)
-
 abbrev start : tie.After-read-samples → tie.Start
 start c = c .before .before .before .before .before
 
 within : (c : tie.After-read-samples) → c .read-samples .result ≤ length (c .read-samples .last .1 .1 .1 .0)
-within c = within-room _ _ _ _ (c .read-samples .ensures .1)
-
--- every sample fits
-all-taken : (len width height : ℕ) → takenInto 32000 (sampleCount len width height) ≡ sampleCount len width height
-all-taken len width height = taken-whole 32000 (sampleCount len width height) (count-fits len width height .1)
+within c = lent-within _ _ _ _ (c .read-samples .ensures .1)
 
 samples-are : (c : tie.After-read-samples) → take (c .read-samples .result) (c .read-samples .last .1 .1 .1 .0) ≡ samplesIn (start c .args .frame .now) (start c .args .settings)
-samples-are c =
-    let a = start c .args in
-    let n = sampleCount (length (a .frame .now)) (a .settings .width) (a .settings .height) in
-    at-front _ _ _ _ (c .read-samples .ensures .1)
-    ∙ ap (samplesOf (a .frame .now)) (c .read-samples .ensures .0 ∙ ap (λ (k : ℕ). takenInto k n) (length-replicate {A = ℕ} 32000 0) ∙ all-taken (length (a .frame .now)) (a .settings .width) (a .settings .height))
+samples-are c = lent-samples _ _ _ _ _ _ (c .read-samples .ensures .1) (c .read-samples .ensures .0)
 
 slice-aggregate-read-samples : tie.Need-slice-aggregate-read-samples
 slice-aggregate-read-samples c = search needs
