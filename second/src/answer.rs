@@ -100,6 +100,14 @@ pub type Matrix = [Vector; 3];
 /// The record number given to each direction, or none.
 pub type Assignment = Vec<Option<usize>>;
 
+/// Whether another assignment contradicts the search's answer.
+#[derive(Debug, Clone, PartialEq, Eq)]
+pub enum Rivalry {
+    Alone,
+    /// The first that does.
+    Rival(Assignment),
+}
+
 /// What the whole chain gives.
 #[derive(Debug, Clone, PartialEq, Eq)]
 pub struct Solution {
@@ -194,6 +202,16 @@ impl Answer for Assignment {
         out[2] = self.len() as i64;
         for (i, star) in self.iter().enumerate() {
             out[3 + i] = star_number(*star);
+        }
+    }
+}
+
+/// 0 or 1, then a rival's names as the search has them.
+impl Answer for Rivalry {
+    fn fill(&self, out: &mut Numbers) {
+        if let Rivalry::Rival(assignment) = self {
+            assignment.fill(out);
+            out[2] = 1;
         }
     }
 }

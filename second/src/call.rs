@@ -7,7 +7,7 @@ use crate::compare::compare;
 use crate::float::{settled, Float};
 use crate::index::Index;
 use crate::lens::Plate;
-use crate::search::{search_within, Effort, GaveUp};
+use crate::search::{rival_within, search_within, Effort, GaveUp};
 use crate::{attitude, catalogue, direction, frame, gimbal, index, plain, ranking};
 
 #[derive(Debug, Clone, Copy, PartialEq, Eq)]
@@ -29,9 +29,10 @@ pub enum Entry {
     Turned,
     Lens,
     Compare,
+    Rival,
 }
 
-pub const ENTRIES: [Entry; 17] = [
+pub const ENTRIES: [Entry; 18] = [
     Entry::Verdict,
     Entry::List,
     Entry::Direction,
@@ -49,6 +50,7 @@ pub const ENTRIES: [Entry; 17] = [
     Entry::Turned,
     Entry::Lens,
     Entry::Compare,
+    Entry::Rival,
 ];
 
 impl Entry {
@@ -71,6 +73,7 @@ impl Entry {
             Entry::Turned => "row by target",
             Entry::Lens => "lens",
             Entry::Compare => "compare",
+            Entry::Rival => "rival",
         }
     }
 
@@ -85,7 +88,7 @@ impl Entry {
 
     /// How many of the 64 numbers the recorded output shows.
     pub fn numbers_shown(self) -> usize {
-        [8, 30, 5, 3, 2, 11, 11, 47, 6, 3, 2, 47, 3, 2, 2, 3, 3][self.index()]
+        [8, 30, 5, 3, 2, 11, 11, 47, 6, 3, 2, 47, 3, 2, 2, 3, 3, 11][self.index()]
     }
 
     /// Whether plain Rust has this call too.
@@ -101,7 +104,7 @@ impl Entry {
             Entry::Direction => &[19, 5],
             Entry::Catalogue => &[6, 7],
             Entry::Ranking => &[6, 7, 8, 9, 10],
-            Entry::Search => &[6, 7, 8, 9, 11, 12, 13],
+            Entry::Search | Entry::Rival => &[6, 7, 8, 9, 11, 12, 13],
             Entry::Attitude => &[8, 14],
             Entry::Chain => &[1, 2, 3, 4, 19, 5, 6, 7, 9, 10, 12, 13, 14],
             Entry::Index => &[6, 7, 16],
@@ -345,7 +348,7 @@ impl Call {
             Entry::Direction => [&optics[..], &[signed(self.x), signed(self.y)]].concat(),
             Entry::Catalogue | Entry::Attitude | Entry::Cosines | Entry::Turned | Entry::Compare => vec![],
             Entry::Ranking => vec![self.tolerance],
-            Entry::Search => vec![self.needed, self.tolerance],
+            Entry::Search | Entry::Rival => vec![self.needed, self.tolerance],
             Entry::Chain | Entry::Burst => [&frame[..], &optics, &[self.needed, self.tolerance]].concat(),
             Entry::Index => vec![signed(self.floor)],
             Entry::RankingByIndex => vec![signed(self.floor), self.tolerance],
@@ -371,7 +374,7 @@ impl Call {
                 self.catalogue.write(bytes);
                 self.room.write(bytes);
             }
-            Entry::Search => {
+            Entry::Search | Entry::Rival => {
                 self.directions.write(bytes);
                 self.catalogue.write(bytes);
                 self.ranking.write(bytes);
@@ -521,6 +524,14 @@ impl Call {
             }
             Entry::Lens => numbers(&self.lens.focal().map(|focal| focal as usize)),
             Entry::Compare => numbers(&compare(&lent.catalogue, &lent.other, &mut lent.bytes)),
+            Entry::Rival => numbers(&rival_within(
+                &lent.directions,
+                &lent.catalogue,
+                set.needed,
+                set.tolerance,
+                &lent.ranking,
+                effort,
+            )?),
         };
         Ok(Outcome { out, lent })
     }
@@ -618,6 +629,13 @@ impl Call {
             }
             Entry::Lens => numbers(&plain::lens(lens).map(|focal| focal as usize)),
             Entry::Compare => numbers(&plain::compare(&lent.catalogue, &lent.other, &mut lent.bytes)),
+            Entry::Rival => numbers(&plain::rival(
+                &lent.directions,
+                &lent.catalogue,
+                needed,
+                self.tolerance,
+                &lent.ranking,
+            )),
             Entry::Reason => panic!("plain Rust has no {}", self.entry.name()),
         }
     }

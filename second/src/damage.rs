@@ -61,7 +61,7 @@ pub fn damage(call: &mut Call, reason: u8, random: &Random) {
         }
         11 => damage_ranking(call, random),
         12 => match call.entry {
-            Entry::Search => lose_directions(call, random),
+            Entry::Search | Entry::Rival => lose_directions(call, random),
             _ => call.needed = 8,
         },
         15 => match random.below(3) {

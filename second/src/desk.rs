@@ -1,9 +1,11 @@
 //! What the desk prints for the people on the ground.
 
-use crate::answer::{Reason, Refusal, Side};
+use crate::answer::{Reason, Refusal, Rivalry, Side};
+use crate::catalogue::RECORD_BYTES;
+use crate::chain::{chain, CHAIN_ROOM};
 use crate::compare::{changes, Change};
-use crate::listing::refused;
-use crate::{files, frame, index};
+use crate::listing::{refused, seen_directions, star_lines};
+use crate::{files, frame, index, search};
 
 /// The line that says why the pixel is a star or none, for the contents of settings.bin and frame.bin.
 pub fn why(settings: &[u8], frame: &[u8], row: u64, column: u64) -> String {
@@ -65,4 +67,26 @@ fn change_line(identity: u32, change: Change) -> String {
         Change::Changed => "changed",
     };
     format!("{name} {identity}\n")
+}
+
+/// `alone`, or the listed stars with the rival's names, for the contents of settings.bin, catalogue.bin and frame.bin.
+pub fn rival(settings: &[u8], catalogue: &[u8], frame: &[u8]) -> String {
+    rival_lines(settings, catalogue, frame).unwrap_or_else(refused)
+}
+
+fn rival_lines(settings: &[u8], catalogue: &[u8], frame: &[u8]) -> Result<String, Refusal> {
+    let (set, samples) = files::read(settings, frame)?;
+    let mut room = vec![0; CHAIN_ROOM];
+    // No attitude is asked for: stars that are too close for one may have a rival.
+    match chain(&samples, &set, catalogue, &mut room) {
+        Err(refusal) if refusal.number != 14 => return Err(refusal),
+        _ => {}
+    }
+    let list = frame::list(&samples, set.width, set.height, set.threshold)?;
+    let directions = seen_directions(&set, &list);
+    let ranking = &room[..list.stars.len() * (catalogue.len() / RECORD_BYTES)];
+    Ok(match search::rival(&directions, catalogue, set.needed, set.tolerance, ranking)? {
+        Rivalry::Alone => "alone\n".to_string(),
+        Rivalry::Rival(assignment) => star_lines(&list, &assignment, catalogue),
+    })
 }

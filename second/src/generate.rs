@@ -459,6 +459,7 @@ pub fn any_call(random: &Random, entry: Entry) -> Call {
         Entry::Catalogue => any_catalogue(random),
         Entry::Ranking => any_ranking(random),
         Entry::Search => any_search(random),
+        Entry::Rival => any_rival(random),
         Entry::Attitude => any_attitude(random),
         Entry::Chain => any_chain(random),
         Entry::Index => {
@@ -612,6 +613,35 @@ fn any_search(random: &Random) -> Call {
         _ => voted_ranking(&view.directions, &catalogue, call.tolerance),
     });
     call
+}
+
+/// A search whose answer has a rival as often as not: many stars have a second one in their place or close by, or
+/// agree with each other in many ways.
+pub fn any_rival(random: &Random) -> Call {
+    let mut call = any_search(random);
+    if random.chance(50) {
+        add_doubles(random, &mut call);
+    }
+    Call { entry: Entry::Rival, ..call }
+}
+
+/// Puts stars in the place of others, or close by, behind the catalogue, each somewhere in every row.
+pub fn add_doubles(random: &Random, call: &mut Call) {
+    let mut bytes = call.catalogue.values();
+    let stars = catalogue::read(&bytes).expect("the catalogue keeps its rules");
+    let mut rows: Vec<Vec<u16>> = call.ranking.values().chunks(stars.len()).map(<[u16]>::to_vec).collect();
+    let mut identity = stars[stars.len() - 1].identity;
+    for double in 0..1 + random.below(3) {
+        let place = random.pick(&stars).direction.map(|component| component as i32);
+        let star = if random.chance(50) { place } else { sky::near(random, place, 1_000_000_000) };
+        identity += 1;
+        bytes.extend(sky::record(identity, star));
+        for row in &mut rows {
+            row.insert(random.below(row.len() + 1), (stars.len() + double) as u16);
+        }
+    }
+    call.catalogue = Buffer::of(&bytes);
+    call.ranking = Buffer::of(&rows.concat());
 }
 
 fn any_attitude(random: &Random) -> Call {

@@ -60,6 +60,18 @@ extern "C" {
         out: *mut i64,
         out_len: usize,
     );
+    fn mnemathor_rival(
+        directions: *const i32,
+        directions_len: usize,
+        catalogue: *const u8,
+        catalogue_len: usize,
+        needed: usize,
+        tolerance: u64,
+        ranking: *const u16,
+        ranking_len: usize,
+        out: *mut i64,
+        out_len: usize,
+    );
     fn mnemathor_attitude(vectors: *const i64, vectors_len: usize, out: *mut i64, out_len: usize);
     fn mnemathor_chain(
         samples: *const u16,
@@ -233,18 +245,21 @@ pub fn run(call: &Call, lent: &mut Lent, out: &mut [i64]) {
                 out.0,
                 out.1,
             ),
-            Entry::Search => mnemathor_search(
-                directions.0,
-                directions.1,
-                catalogue.0,
-                catalogue.1,
-                needed,
-                call.tolerance,
-                ranking.0,
-                ranking.1,
-                out.0,
-                out.1,
-            ),
+            Entry::Search | Entry::Rival => {
+                let search = if call.entry == Entry::Search { mnemathor_search } else { mnemathor_rival };
+                search(
+                    directions.0,
+                    directions.1,
+                    catalogue.0,
+                    catalogue.1,
+                    needed,
+                    call.tolerance,
+                    ranking.0,
+                    ranking.1,
+                    out.0,
+                    out.1,
+                )
+            }
             Entry::Attitude => mnemathor_attitude(vectors.0, vectors.1, out.0, out.1),
             Entry::Chain => mnemathor_chain(
                 samples.0,

@@ -1,7 +1,7 @@
 //! What the program prints for its three files.
 
 use crate::answer::{Assignment, List, Refusal};
-use crate::catalogue;
+use crate::catalogue::{self, RECORD_BYTES};
 use crate::chain::{chain, Settings, CHAIN_ROOM};
 use crate::direction::Optics;
 use crate::{files, frame, search};
@@ -40,10 +40,16 @@ fn chain_listing(settings: &Settings, samples: &[u16], catalogue: &[u8]) -> Stri
     }
 }
 
-/// The counts, then a line for each star: number, position, brightness, identity.
+/// The counts, then a line for each star.
 fn first_lines(list: &List, assignment: &Assignment, catalogue: &[u8]) -> String {
+    let counts = format!("measured {} edge {} lone {}\n", list.measured, list.edge, list.lone);
+    counts + &star_lines(list, assignment, catalogue)
+}
+
+/// For each star its number, position, brightness and identity.
+pub fn star_lines(list: &List, assignment: &Assignment, catalogue: &[u8]) -> String {
     let records = catalogue::read(catalogue).expect("the chain accepted the catalogue");
-    let mut lines = format!("measured {} edge {} lone {}\n", list.measured, list.edge, list.lone);
+    let mut lines = String::new();
     for (k, (star, record)) in list.stars.iter().zip(assignment).enumerate() {
         let identity = record.map_or("-".to_string(), |record| records[record].identity.to_string());
         lines += &format!("{k} {} {} {} {identity}\n", star.x, star.y, star.brightness);
@@ -53,15 +59,19 @@ fn first_lines(list: &List, assignment: &Assignment, catalogue: &[u8]) -> String
 
 /// The search's answer for a chain that ended at the attitude: its ranking stands in the room.
 fn assignment_found(settings: &Settings, list: &List, catalogue: &[u8], room: &[u16]) -> Assignment {
+    let directions = seen_directions(settings, list);
+    let words = directions.len() / 3 * (catalogue.len() / RECORD_BYTES);
+    search::search(&directions, catalogue, settings.needed, settings.tolerance, &room[..words])
+        .expect("the chain's search found an assignment")
+}
+
+/// The directions of the listed stars, for settings that the chain accepted.
+pub fn seen_directions(settings: &Settings, list: &List) -> Vec<i32> {
     let optics =
         Optics::check(settings.cx, settings.cy, settings.lens).expect("the chain accepted the settings");
-    let directions: Vec<i32> = list
-        .stars
+    list.stars
         .iter()
         .flat_map(|star| optics.direction(star.x.into(), star.y.into()))
         .map(|component| component as i32)
-        .collect();
-    let words = directions.len() / 3 * (catalogue.len() / 16);
-    search::search(&directions, catalogue, settings.needed, settings.tolerance, &room[..words])
-        .expect("the chain's search found an assignment")
+        .collect()
 }

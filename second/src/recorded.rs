@@ -13,6 +13,7 @@ use crate::sky::{self, record};
 mod compare;
 mod gimbal;
 mod lens;
+mod rival;
 
 /// A case whose search tries more stars than this is left out.
 const MOST_STARS_TRIED: u64 = 1_000_000;
@@ -53,6 +54,7 @@ pub fn calls() -> Vec<Call> {
             Entry::Turned => gimbal::targets(&random, &mut calls),
             Entry::Lens => lens::plates(&random, &mut calls),
             Entry::Compare => compare::pairs(&random, &mut calls),
+            Entry::Rival => rival::rivals(&random, &mut calls),
         }
     }
     calls

@@ -330,3 +330,22 @@ unsafe extern "C" fn mnemathor_compare(
     let room = from_raw_parts_mut(room, room_len);
     answer(out, out_len, || plain::compare(first, second, room));
 }
+
+#[no_mangle]
+unsafe extern "C" fn mnemathor_rival(
+    directions: *const i32,
+    directions_len: usize,
+    catalogue: *const u8,
+    catalogue_len: usize,
+    needed: usize,
+    tolerance: u64,
+    ranking: *const u16,
+    ranking_len: usize,
+    out: *mut i64,
+    out_len: usize,
+) {
+    let directions = from_raw_parts(directions, directions_len);
+    let catalogue = from_raw_parts(catalogue, catalogue_len);
+    let ranking = from_raw_parts(ranking, ranking_len);
+    answer(out, out_len, || plain::rival(directions, catalogue, needed, tolerance, ranking));
+}

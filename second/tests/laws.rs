@@ -1,7 +1,10 @@
 //! Laws that hold of any input: roots, verdicts and lists, votes and rows, the search against its
 //! definition.
 
-use second::answer::{numbers, Assignment, Kind, Reason};
+mod definition;
+
+use definition::{fitting, product};
+use second::answer::{numbers, Kind, Reason};
 use second::call::Entry;
 use second::generate::{
     flat, random_stars, rising_ranking, shuffled_ranking, simple_stars, small_frame, View,
@@ -114,6 +117,27 @@ fn list_is_made_of_the_verdicts() {
             assert_eq!(list.stars.get(place), (place < 8).then_some(star));
         }
     }
+}
+
+#[test]
+fn peaks_keep_apart() {
+    let random = Random::new(9);
+    let mut given = [0; 5];
+    for _ in 0..1_500 {
+        let call = small_frame(&random, Entry::Verdict);
+        let (samples, set) = (call.samples.values(), call.settings());
+        let mut peaks: Vec<(i128, i128)> = Vec::new();
+        for (row, column) in (0..set.height).flat_map(|row| (0..set.width).map(move |column| (row, column))) {
+            let verdict =
+                frame::verdict(&samples, set.width, set.height, set.threshold, row, column).unwrap();
+            if matches!(verdict.kind, Kind::Edge | Kind::Lone | Kind::Measured(_)) {
+                assert!(peaks.iter().all(|peak| (peak.0 - row).abs() > 3 || (peak.1 - column).abs() > 3));
+                peaks.push((row, column));
+                given[verdict.kind.number() as usize] += 1;
+            }
+        }
+    }
+    assert!(given[2..].iter().all(|&count| count > 100), "{given:?}");
 }
 
 /// The pixels of the window of a pixel that beat it, in row order: by hand, from the rule of beating.
@@ -274,55 +298,6 @@ fn rows_are_sorted_by_votes() {
     }
 }
 
-/// The triple product of three vectors whose components are divided by 1,000, as a determinant.
-fn product(vectors: [[i32; 3]; 3]) -> i128 {
-    let [a, b, c] = vectors.map(|vector| vector.map(|component| i128::from(component) / 1_000));
-    a[0] * b[1] * c[2] + a[1] * b[2] * c[0] + a[2] * b[0] * c[1]
-        - a[2] * b[1] * c[0]
-        - a[1] * b[0] * c[2]
-        - a[0] * b[2] * c[1]
-}
-
-/// The definition of the search on tiny cases: all assignments, those that fit, the first of them.
-fn first_by_definition(
-    directions: &[[i32; 3]],
-    stars: &[[i32; 3]],
-    needed: usize,
-    tolerance: i128,
-    rows: &[&[u16]],
-) -> Option<Assignment> {
-    let wide = |v: [i32; 3]| v.map(i128::from);
-    let agree = |i: usize, j: usize, a: usize, b: usize| {
-        let seen = dot(&wide(directions[i]), &wide(directions[j]));
-        let known = dot(&wide(stars[a]), &wide(stars[b]));
-        (seen - known).abs() <= tolerance
-    };
-    let mirrored = |three: [(usize, usize); 3]| {
-        let seen = product(three.map(|(i, _)| directions[i]));
-        let known = product(three.map(|(_, a)| stars[a]));
-        seen.min(known) <= -1_000_000_000_000 && seen.max(known) >= 1_000_000_000_000
-    };
-    let fits = |assignment: &Assignment| {
-        let assigned: Vec<(usize, usize)> =
-            assignment.iter().enumerate().filter_map(|(i, star)| Some((i, (*star)?))).collect();
-        let all_pairs = assigned
-            .iter()
-            .enumerate()
-            .all(|(k, &(i, a))| assigned[..k].iter().all(|&(j, b)| a != b && agree(i, j, a, b)));
-        let count = assigned.len();
-        let some_mirrored = (0..count)
-            .any(|k| (0..k).any(|j| (0..j).any(|i| mirrored([assigned[i], assigned[j], assigned[k]]))));
-        all_pairs && !some_mirrored && count >= needed
-    };
-    let place = |i: usize, star: Option<usize>| match star {
-        None => usize::MAX,
-        Some(star) => rows[i].iter().position(|&entry| usize::from(entry) == star).unwrap(),
-    };
-    every_assignment(directions.len(), stars.len()).into_iter().filter(fits).min_by_key(|assignment| {
-        assignment.iter().enumerate().map(|(i, star)| place(i, *star)).collect::<Vec<_>>()
-    })
-}
-
 #[test]
 fn dense_searches_give_the_first_assignment_that_fits() {
     let random = Random::new(8);
@@ -339,8 +314,8 @@ fn dense_searches_give_the_first_assignment_that_fits() {
             .collect();
         let rows: Vec<&[u16]> = lent.ranking.chunks(stars).collect();
         let (needed, tolerance) = (call.needed as usize, i128::from(call.tolerance));
-        let expected =
-            first_by_definition(&vectors(&lent.directions), &vectors(&known), needed, tolerance, &rows);
+        let fitting = fitting(&vectors(&lent.directions), &vectors(&known), needed, tolerance, &rows);
+        let expected = fitting.first().cloned();
         let answer =
             search::search(&lent.directions, &lent.catalogue, needed as i128, tolerance, &lent.ranking);
         match &expected {
@@ -350,23 +325,6 @@ fn dense_searches_give_the_first_assignment_that_fits() {
         assert_eq!(answer.map_err(|refusal| refusal.number), expected.ok_or(13));
     }
     assert!(found > 100 && none > 100, "{found} found, {none} without an answer");
-}
-
-fn every_assignment(directions: usize, stars: usize) -> Vec<Assignment> {
-    let mut all = vec![Vec::new()];
-    for _ in 0..directions {
-        all = all
-            .into_iter()
-            .flat_map(|begun: Assignment| {
-                (0..stars).map(Some).chain([None]).map(move |choice| {
-                    let mut longer = begun.clone();
-                    longer.push(choice);
-                    longer
-                })
-            })
-            .collect();
-    }
-    all
 }
 
 /// Stars for a small search: anywhere, with few angles, or in a patch so small that every pair agrees and the
@@ -406,7 +364,8 @@ fn search_gives_the_first_assignment_that_fits() {
             rising_ranking(view.directions.len(), count)
         };
         let rows: Vec<&[u16]> = words.chunks(count).collect();
-        let expected = first_by_definition(&view.directions, &view.stars, needed, tolerance, &rows);
+        let fitting = fitting(&view.directions, &view.stars, needed, tolerance, &rows);
+        let expected = fitting.first().cloned();
         let bytes = sky::catalogue(&random, &view.stars);
         let answer = search::search(&flat(&view.directions), &bytes, needed as i128, tolerance, &words);
         match &expected {

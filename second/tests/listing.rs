@@ -1,5 +1,7 @@
-//! The program's listing: the whole one of the scope document, and what refusals print.
+//! The program's listing: the whole one of the scope document, and what refusals print. The desk's rival on the same
+//! files.
 
+use second::desk;
 use second::listing::listing;
 use second::sky::record;
 
@@ -42,6 +44,10 @@ impl Files {
 
     fn listing(&self) -> String {
         listing(&self.settings, &self.catalogue, &self.frame)
+    }
+
+    fn rival(&self) -> String {
+        desk::rival(&self.settings, &self.catalogue, &self.frame)
     }
 }
 
@@ -236,4 +242,52 @@ fn the_largest_frame_is_taken() {
         frame: vec![0; 2 * 32_000],
     };
     assert_eq!(files.listing(), "measured 0 edge 0 lone 0\nrefused 12 0\n");
+}
+
+#[test]
+fn the_rival_of_the_listing() {
+    let mut files = Files::of_document();
+    // With the stars to the left and right exchanged every three is mirrored.
+    assert_eq!(files.rival(), "alone\n");
+    // A second star below, in the same place.
+    files.catalogue = [record(11, LEFT), record(22, RIGHT), record(33, BELOW), record(44, BELOW)].concat();
+    assert!(files.listing().contains("\n2 20480 27648 4800 33\n"));
+    assert_eq!(files.rival(), "0 8192 15360 4800 11\n1 32768 15360 4800 22\n2 20480 27648 4800 44\n");
+    // A fourth star on the frame that the catalogue does not know has no name.
+    files.set_star(160 * 20 + 20, 60);
+    let rival = files.rival();
+    assert!(
+        rival.starts_with("0 8192 15360 4800 11\n") && rival.contains(" 44\n3 5120 5120 2880 -\n"),
+        "{rival}"
+    );
+}
+
+#[test]
+fn the_rival_needs_no_attitude() {
+    let mut files = Files::of_document();
+    // All stars stand in one place and everything agrees: 14 for the chain, and 11, 33, 22 for the rival.
+    files.settings = settings(160, 120, 50, 3, [20_480, 15_360, 4_194_304], 10_000_000_000_000_000);
+    files.catalogue = [record(11, LEFT), record(22, LEFT), record(33, LEFT)].concat();
+    assert!(files.listing().ends_with("refused 14 0\n"));
+    assert_eq!(files.rival(), "0 8192 15360 4800 11\n1 32768 15360 4800 33\n2 20480 27648 4800 22\n");
+}
+
+#[test]
+fn the_rival_is_refused_as_the_chain_is() {
+    let refused = |damage: &dyn Fn(&mut Files)| {
+        let mut files = Files::of_document();
+        damage(&mut files);
+        files.rival()
+    };
+    assert_eq!(refused(&|f| f.settings.clear()), "refused 1 0\n");
+    assert_eq!(refused(&|f| f.frame.clear()), "refused 2 0\n");
+    assert_eq!(refused(&|f| f.settings[5] = 0), "refused 3 0\n");
+    assert_eq!(refused(&|f| f.set_sample(77, 4_096)), "refused 4 77\n");
+    assert_eq!(refused(&|f| f.settings[16] = 255), "refused 19 0\n");
+    assert_eq!(refused(&|f| f.settings[8] = 255), "refused 5 0\n");
+    assert_eq!(refused(&|f| f.catalogue.clear()), "refused 6 0\n");
+    assert_eq!(refused(&|f| f.catalogue[3] = 22), "refused 7 1\n");
+    assert_eq!(refused(&|f| f.settings[7] = 2), "refused 9 0\n");
+    assert_eq!(refused(&|f| f.settings[7] = 4), "refused 12 0\n");
+    assert_eq!(refused(&|f| f.catalogue.truncate(32)), "refused 13 0\n");
 }

@@ -82,7 +82,7 @@ impl Reader<'_> {
                 assert_eq!(self.catalogue(), lent.catalogue);
                 assert_eq!(self.words(), lent.room);
             }
-            Entry::Search => {
+            Entry::Search | Entry::Rival => {
                 assert_eq!(self.directions(), lent.directions);
                 assert_eq!(self.catalogue(), lent.catalogue);
                 assert_eq!(self.words(), lent.ranking);
@@ -134,7 +134,7 @@ impl Reader<'_> {
 }
 
 fn scalar_count(entry: Entry) -> usize {
-    [5, 3, 7, 0, 1, 2, 0, 10, 5, 1, 2, 11, 10, 0, 0, 3, 0][entry.index()]
+    [5, 3, 7, 0, 1, 2, 0, 10, 5, 1, 2, 11, 10, 0, 0, 3, 0, 2][entry.index()]
 }
 
 #[test]

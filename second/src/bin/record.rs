@@ -95,7 +95,7 @@ fn print_table(cases: &[Case]) {
         |entry: Entry| cases.iter().filter(move |case| case.call.entry == entry).map(|case| case.tried);
     println!("cases {}, left out as too long {}", cases.len(), calls().len() - cases.len());
     println!("samples lent {}", cases.iter().map(|case| case.call.samples.len).sum::<usize>());
-    for entry in [Entry::Search, Entry::Chain, Entry::ChainByIndex, Entry::Burst] {
+    for entry in [Entry::Search, Entry::Chain, Entry::ChainByIndex, Entry::Burst, Entry::Rival] {
         println!(
             "stars tried by {}: {} in all, {} at most",
             entry.name(),

@@ -10,6 +10,7 @@ mod frames;
 mod gimbals;
 mod indexes;
 mod rankings;
+mod rivals;
 mod scan;
 mod table;
 
@@ -38,6 +39,7 @@ fn rows(part: &str) -> bool {
         rankings::inputs(&random),
         hard::searches(&random),
         compares::inputs(&random),
+        rivals::inputs(&random),
     ]
     .concat();
     let mut inputs: Vec<_> = single.into_iter().map(|(name, call)| (name, vec![call])).collect();

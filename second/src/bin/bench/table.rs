@@ -78,14 +78,15 @@ fn seconds_a_time(mut work: impl FnMut()) -> f64 {
     (busy() - start).as_secs_f64() / f64::from(times)
 }
 
-/// How many stars a search places; plain Rust counts them.
+/// How many stars a search, or that for a rival, places; plain Rust counts them.
 pub fn turns(call: &Call) -> Option<u64> {
-    if call.entry != Entry::Search {
-        return None;
+    let (lent, needed, tolerance) = (call.lend(), call.needed as usize, call.tolerance);
+    let (directions, catalogue, ranking) = (&lent.directions, &lent.catalogue, &lent.ranking);
+    match call.entry {
+        Entry::Search => {
+            Some(plain::counted_search(directions, catalogue, needed, tolerance, ranking).ok()?.1)
+        }
+        Entry::Rival => Some(plain::counted_rival(directions, catalogue, needed, tolerance, ranking).ok()?.1),
+        _ => None,
     }
-    let lent = call.lend();
-    let needed = call.needed as usize;
-    let answer =
-        plain::counted_search(&lent.directions, &lent.catalogue, needed, call.tolerance, &lent.ranking);
-    answer.ok().map(|(_, turns)| turns)
 }

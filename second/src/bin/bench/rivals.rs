@@ -1,0 +1,31 @@
+//! Rivals of a search over the sky, as a flight has it: alone, or with a second star close to one that is named.
+
+use second::call::{Buffer, Call, Entry};
+use second::generate::{random_stars, voted_ranking, View};
+use second::random::Random;
+use second::sky;
+
+const STARS: usize = 512;
+
+pub fn inputs(random: &Random) -> Vec<(&'static str, Call)> {
+    vec![
+        ("rival, 8 directions, 512 stars, alone", flight(random, false)),
+        ("rival, the same with a double star", flight(random, true)),
+    ]
+}
+
+fn flight(random: &Random, double: bool) -> Call {
+    let mut view = View::of(random, random_stars(random, STARS), 8, 0);
+    if double {
+        // A star that is not seen moves close to one that is.
+        let [seen, unseen] = [true, false].map(|seen| {
+            (0..STARS).find(|record| view.truth.contains(&Some(*record)) == seen).expect("eight are seen")
+        });
+        view.stars[unseen] = sky::near(random, view.stars[seen], 100_000_000);
+    }
+    let mut call = Call { entry: Entry::Rival, ..view.search(random, 5) };
+    call.tolerance = 100_000_000_000;
+    let catalogue = call.catalogue.values();
+    call.ranking = Buffer::of(&voted_ranking(&view.directions, &catalogue, call.tolerance));
+    call
+}
