@@ -1,5 +1,5 @@
--- Pixels that could be stars stand apart, on every frame: two different pixels within 3 rows and 3 columns of each other are not both edge or
--- measured, for of the two the earlier is beaten where the later is larger, and the later where it is not. Assumes nothing.
+-- Pixels that could be stars stand apart, on every frame: two different pixels within 3 rows and 3 columns of each other are not both edge, lone
+-- or measured, for of the two the earlier is beaten where the later is larger, and the later where it is not. Assumes nothing.
 use mathlib.Core.Bool.{Bool, true, false, cond}
 use mathlib.Core.Path.{_≡_, refl}
 use mathlib.Core.Logic.{inl, inr}
@@ -13,7 +13,7 @@ use Rattle.window.specs.Window.{beaten}
 use Rattle.window.specs.Laws.{Earlier, InWindow}
 use Rattle.window.specs.Unbeaten.{none-larger, earlier-smaller}
 use Rattle.verdict.specs.declared.Kind.{Kind}
-use Rattle.verdict.specs.declared.Kind.the-variants.{Dark, Beaten, Edge, Measured}
+use Rattle.verdict.specs.declared.Kind.the-variants.{Dark, Beaten, Edge, Lone, Measured}
 use Rattle.verdict.specs.Verdict.{dark, peakKind, kindOf}
 
 -- the verdicts of a pixel that is neither dark nor beaten
@@ -21,6 +21,7 @@ abbrev pub isPeak : Kind → Bool
 isPeak Dark = false
 isPeak Beaten = false
 isPeak Edge = true
+isPeak Lone = true
 isPeak (Measured c) = true
 
 module _ (samples : List ℕ) (width height threshold : ℕ) where
@@ -32,7 +33,7 @@ module _ (samples : List ℕ) (width height threshold : ℕ) where
   unfolding kindOf
   unbeaten row column = go (dark samples width threshold row column) (beaten samples width height row column)
     where
-      go : (a b : Bool) → isPeak (cond a Dark (cond b Beaten (peakKind samples width height row column))) ≡ true → b ≡ false
+      go : (a b : Bool) → isPeak (cond a Dark (cond b Beaten (peakKind samples width height threshold row column))) ≡ true → b ≡ false
       go true b e = contradiction e
       go false true e = contradiction e
       go false false e = refl
