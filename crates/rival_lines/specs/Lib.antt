@@ -1,0 +1,2 @@
+-- The texts that the contracts cite.
+pub mod Rival
