@@ -34,6 +34,10 @@ fn compare_usage() {
     io::write_all(STDERR_FILENO, b"usage: ./mnemathor compare OLD NEW\n");
 }
 
+fn rival_usage() {
+    io::write_all(STDERR_FILENO, b"usage: ./mnemathor rival FOLDER\n");
+}
+
 // Writes an answer out. A program has no exit status of its own, so a write that failed is told on standard error.
 fn show(answer: &[u8]) {
     if !io::write_all(STDOUT_FILENO, answer) {
@@ -191,6 +195,28 @@ fn compare_words() {
     compare();
 }
 
+// Whether what the three files show has a rival.
+fn rival() {
+    let mut settings = [0u8; SETTINGS_ROOM];
+    let n = read(b"settings.bin", &mut settings);
+    let mut frame = [0u8; FRAME_ROOM];
+    let m = read(b"frame.bin", &mut frame);
+    let mut catalogue = [0u8; CATALOGUE_ROOM];
+    let k = read(b"catalogue.bin", &mut catalogue);
+    let mut room = [0u8; listing::ROOM];
+    let end = rival_lines::rival(&settings[..n], &frame[..m], &catalogue[..k], &mut room);
+    show(&room[..end]);
+}
+
+// rival
+fn rival_words() {
+    if os::arg_count() != 2 {
+        rival_usage();
+        return;
+    }
+    rival();
+}
+
 fn main() {
     if word_is(1, b"index") {
         index_words();
@@ -198,6 +224,10 @@ fn main() {
     }
     if word_is(1, b"compare") {
         compare_words();
+        return;
+    }
+    if word_is(1, b"rival") {
+        rival_words();
         return;
     }
     why_words();
