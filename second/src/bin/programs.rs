@@ -1,8 +1,10 @@
-//! Runs the program on many folders and compares what it prints with the second listing.
+//! Runs the program on many folders and compares what it prints with the second listing, or the desk's rival.
 //!
-//! `programs PROGRAM FOLDER`: the files of each case are written into FOLDER, and PROGRAM is run there.
+//! `programs PROGRAM FOLDER [rival]`: the files of each case are written into FOLDER, and PROGRAM is run there, with the
+//! word that is given.
 
 use second::call::{Buffer, Call, Entry};
+use second::desk;
 use second::generate::{dark_frame, random_stars, set_pixel, Scene, MOST_TOLERANCE};
 use second::lens::Plate;
 use second::listing::listing;
@@ -17,21 +19,29 @@ const NAMES: [&str; 3] = ["settings.bin", "catalogue.bin", "frame.bin"];
 /// The three files; one that is missing counts as empty.
 type Files = [Option<Vec<u8>>; 3];
 
+/// What is expected for settings.bin, catalogue.bin and frame.bin.
+type Text = fn(&[u8], &[u8], &[u8]) -> String;
+
 fn main() -> ExitCode {
     let arguments: Vec<String> = env::args().skip(1).collect();
-    let [program, folder] = &arguments[..] else {
-        eprintln!("usage: programs PROGRAM FOLDER");
-        return ExitCode::FAILURE;
+    let (program, folder, words, text): (_, _, _, Text) = match &arguments[..] {
+        [program, folder] => (program, folder, &arguments[2..], listing),
+        [program, folder, word] if word == "rival" => (program, folder, &arguments[2..], desk::rival),
+        _ => {
+            eprintln!("usage: programs PROGRAM FOLDER [rival]");
+            return ExitCode::FAILURE;
+        }
     };
     let cases = cases();
     let mut differences = 0;
     for (k, files) in cases.iter().enumerate() {
-        match printed(Path::new(program), Path::new(folder), files) {
-            Ok(text) if text == expected(files) => {}
+        let expected = told(text, files);
+        match printed(Path::new(program), words, Path::new(folder), files) {
+            Ok(text) if text == expected => {}
             Ok(text) => {
                 differences += 1;
                 if differences <= 3 {
-                    println!("case {k} printed\n{text}where this is expected\n{}", expected(files));
+                    println!("case {k} printed\n{text}where this is expected\n{expected}");
                 }
             }
             Err(error) => {
@@ -48,7 +58,7 @@ fn main() -> ExitCode {
     }
 }
 
-fn printed(program: &Path, folder: &Path, files: &Files) -> io::Result<String> {
+fn printed(program: &Path, words: &[String], folder: &Path, files: &Files) -> io::Result<String> {
     for (name, contents) in NAMES.iter().zip(files) {
         let path = folder.join(name);
         match contents {
@@ -57,13 +67,13 @@ fn printed(program: &Path, folder: &Path, files: &Files) -> io::Result<String> {
             None => {}
         }
     }
-    let output = Command::new(program).current_dir(folder).output()?;
+    let output = Command::new(program).args(words).current_dir(folder).output()?;
     Ok(String::from_utf8_lossy(&output.stdout).into_owned())
 }
 
-fn expected(files: &Files) -> String {
+fn told(text: Text, files: &Files) -> String {
     let [settings, catalogue, frame] = files.clone().map(Option::unwrap_or_default);
-    listing(&settings, &catalogue, &frame)
+    text(&settings, &catalogue, &frame)
 }
 
 /// The recorded chains that files can hold, and damage that only files can have.
@@ -75,7 +85,7 @@ fn cases() -> Vec<Files> {
         .filter_map(files_of)
         .collect();
     let sound =
-        cases.iter().position(|files| expected(files).starts_with("measured")).expect("a sound chain");
+        cases.iter().position(|files| told(listing, files).starts_with("measured")).expect("a sound chain");
     let sound = cases[sound].clone();
     cases.extend(damaged(&sound));
     cases.extend(longest());
@@ -153,7 +163,7 @@ fn longest() -> Vec<Files> {
 
 /// Whether five stars are listed, every one with a name, and then the matrix or the refusal stands.
 fn all_named(call: &Call, lines: usize) -> bool {
-    let listing = files_of(call).map(|files| expected(&files)).unwrap_or_default();
+    let listing = files_of(call).map(|files| told(listing, &files)).unwrap_or_default();
     listing.starts_with("measured 5 edge 2 lone 0\n")
         && listing.lines().count() == lines
         && !listing.contains(" -\n")
