@@ -50,6 +50,7 @@ fn left_to_differ(
     requires { ⌜ InRange setup (now directions) (now stars) ⌝ }
     requires { ⌜ (i ≤ j) × (j < setup .dirs) × (length (now chosen) ≡ 8) ⌝ }
     ensures { λ r. ⌜ (r ≡ false → NoOther setup (now (directions .entry)) (now (stars .entry)) (now (chosen .entry)) own i j) ⌝ }
+    ensures { λ r. ⌜ (r ≡ true → NoOther setup (now (directions .entry)) (now (stars .entry)) (now (chosen .entry)) own i j → ⊥) ⌝ }
 {
     let all = setup.stars;
     if all <= own {
@@ -62,7 +63,8 @@ fn left_to_differ(
     forward::candidate(directions, stars, setup, chosen, i, j, own + 1) < all
 }
 
-// Whether an assignment that begins with the first i words chosen may differ from ours: one of them does, or a later direction is left to.
+// Whether an assignment that begins with the first i words chosen may differ from ours: one of them does, or a later direction is left to. It says no
+// exactly where none differs and none is left to.
 pub fn may_differ(
     directions: &[i32],
     stars: &[i32],
@@ -74,6 +76,7 @@ pub fn may_differ(
     requires { ⌜ InRange setup (now directions) (now stars) ⌝ }
     requires { ⌜ (i ≤ setup .dirs) × (length (now ours) ≡ 8) × (length (now chosen) ≡ 8) ⌝ }
     ensures { λ r. ⌜ (r ≡ false → NoneDiffers (setup .dirs) (setup .stars) (beforehand setup (now (directions .entry)) (now (stars .entry))) (now (ours .entry)) i (now (chosen .entry))) ⌝ }
+    ensures { λ r. ⌜ (r ≡ true → NoneDiffers (setup .dirs) (setup .stars) (beforehand setup (now (directions .entry)) (now (stars .entry))) (now (ours .entry)) i (now (chosen .entry)) → ⊥) ⌝ }
     ensures { λ r. ⌜ (r ≡ true → i ≡ setup .dirs → differsOf (setup .stars) i (now (ours .entry)) (now (chosen .entry)) ≡ true) ⌝ }
 {
     let dirs = setup.dirs;

@@ -21,7 +21,9 @@ differs-requires : tie.Need-differs-requires Inv-loop μ-loop
 differs-requires c κs = let o = c .before .before in (omega (arith, o .pre .0 .few), omega (arith, o .pre .0 .few))
 
 returns : tie.Need-returns Inv-loop μ-loop
-returns c = (λ e. never (sym e), λ _ _. sym (c .before .differs .ensures) ∙ c .if1 .taken)
+returns c =
+    let d = sym (c .before .differs .ensures) ∙ c .if1 .taken in
+    (λ e. never (sym e), (λ _ n. never (sym (n .so-far) ∙ d), λ _ _. d))
 
 loop-holds : tie.Need-loop-holds Inv-loop μ-loop
 loop-holds c = (omega arith, (omega arith, λ k l w. absurd (omega arith)))
@@ -39,7 +41,17 @@ left-to-differ-requires : tie.Need-left-to-differ-requires Inv-loop μ-loop
 left-to-differ-requires c κs = search needs
 
 returns-2 : tie.Need-returns-2 Inv-loop μ-loop
-returns-2 c = (λ e. never (sym e), λ _ e. absurd (omega (arith, e)))
+returns-2 c =
+    let h = c .before .before .before .before .before in
+    let o = h .before .before .before .before .before in (
+      λ e. never (sym e),
+      (
+        λ _ n. c .before .left-to-differ .ensures .1 (c .if2 .taken)
+            (subst (λ (own : ℕ). NoOther (o .args .setup) (o .args .directions .now) (o .args .stars .now) (o .args .chosen .now) own (o .args .i) (h .loop .j))
+            (sym (c .before .before .index .ensures)) (n .later (h .loop .j) (h .loop .inv .0) (omega arith))),
+        λ _ e. absurd (omega (arith, e)),
+      ),
+    )
 
 add-j : tie.Need-add-j Inv-loop μ-loop
 add-j c = omega arith
@@ -56,7 +68,7 @@ loop-again c =
         omega arith,
         below-more _ _ (h .loop .inv .1 .1)
             (λ _. subst (λ (own : ℕ). NoOther (o .args .setup) (o .args .directions .now) (o .args .stars .now) (o .args .chosen .now) own (o .args .i) (h .loop .j))
-            (c .before .before .index .ensures) (c .before .left-to-differ .ensures (c .if2 .left))),
+            (c .before .before .index .ensures) (c .before .left-to-differ .ensures .0 (c .if2 .left))),
       ),
     )
 
@@ -67,7 +79,7 @@ returns-3 c =
         so-far = sym (h .before .before .differs .ensures) ∙ h .before .if1 .left;
         later = λ j w l. h .loop .inv .1 .1 j (omega arith) w;
       },
-      λ e. never e,
+      (λ e. never e, λ e. never e),
     )
 
 pub may-differ-spec : {M : Type 1} → statement M
