@@ -110,8 +110,7 @@ pub fn ranking(fd: i32, bytes: &mut [u8], stars: &mut [u8], room: &mut [u16]) {
     print_end();
 }
 
-// A search, or the rivals of what it finds, which takes the same.
-pub fn search(fd: i32, kind: u64, bytes: &mut [u8], stars: &mut [u8], room: &mut [u16]) {
+pub fn search(fd: i32, bytes: &mut [u8], stars: &mut [u8], room: &mut [u16]) {
     let needed = word(fd) as usize;
     let tolerance = word(fd);
     let mut directions = [0i32; 40];
@@ -119,26 +118,35 @@ pub fn search(fd: i32, kind: u64, bytes: &mut [u8], stars: &mut [u8], room: &mut
     let s = expand(fd, 1, stars);
     let w = read_words(fd, bytes, room);
     let mut out = [0i64; 64];
-    if kind == 18 {
-        exports_rival::mnemathor_rival(
-            &directions[0..d],
-            &stars[0..s],
-            needed,
-            tolerance,
-            &room[0..w],
-            &mut out,
-        );
-    } else {
-        exports_stars::mnemathor_search(
-            &directions[0..d],
-            &stars[0..s],
-            needed,
-            tolerance,
-            &room[0..w],
-            &mut out,
-        );
-    }
-    print_call(kind, &out, 11);
+    exports_stars::mnemathor_search(
+        &directions[0..d],
+        &stars[0..s],
+        needed,
+        tolerance,
+        &room[0..w],
+        &mut out,
+    );
+    print_call(6, &out, 11);
+    print_end();
+}
+
+pub fn rival(fd: i32, bytes: &mut [u8], stars: &mut [u8], room: &mut [u16]) {
+    let needed = word(fd) as usize;
+    let tolerance = word(fd);
+    let mut directions = [0i32; 40];
+    let d = read_directions(fd, bytes, &mut directions);
+    let s = expand(fd, 1, stars);
+    let w = read_words(fd, bytes, room);
+    let mut out = [0i64; 64];
+    exports_rival::mnemathor_rival(
+        &directions[0..d],
+        &stars[0..s],
+        needed,
+        tolerance,
+        &room[0..w],
+        &mut out,
+    );
+    print_call(18, &out, 11);
     print_end();
 }
 

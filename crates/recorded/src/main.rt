@@ -20,7 +20,7 @@ fn run(
         3 => calls::direction(fd),
         4 => calls::catalogue(fd, stars),
         5 => calls::ranking(fd, bytes, stars, room),
-        6 => calls::search(fd, 6, bytes, stars, room),
+        6 => calls::search(fd, bytes, stars, room),
         7 => calls::attitude(fd, bytes),
         10 => calls::index(fd, stars, index),
         11 => calls::ranking_by_index(fd, bytes, stars, index, room),
@@ -30,7 +30,7 @@ fn run(
         15 => gimbal::turned(fd, bytes),
         16 => calls::lens(fd),
         17 => calls::compare(fd, bytes, stars, index),
-        18 => calls::search(fd, 18, bytes, stars, room),
+        18 => calls::rival(fd, bytes, stars, room),
         8 => calls::chain(fd, bytes, samples, stars, room),
         _ => calls::reason(fd, bytes, samples),
     }
