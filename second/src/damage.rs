@@ -1,12 +1,13 @@
 //! Damage that gives each refusal, in each of its ways.
 
 use crate::call::{Buffer, Call, Entry};
+use crate::catalogue::RECORD_BYTES;
 use crate::compare;
 use crate::float::{negated, of_whole, INFINITY};
 use crate::generate::{
     index_bytes, list_length, mirrored_catalogue, pixels, FARTHEST_ENTRY, HUGE, MOST_TOLERANCE, NON_NUMBERS,
 };
-use crate::index::RECORD_BYTES;
+use crate::index::RECORD_BYTES as INDEX_RECORD;
 use crate::lens::{Plate, MILLIMETRES};
 use crate::random::Random;
 use crate::sky;
@@ -53,7 +54,9 @@ pub fn damage(call: &mut Call, reason: u8, random: &Random) {
         },
         10 => {
             let full = match call.entry {
-                Entry::Ranking | Entry::RankingByIndex => call.directions.len / 3 * (call.catalogue.len / 16),
+                Entry::Ranking | Entry::RankingByIndex => {
+                    call.directions.len / 3 * (call.catalogue.len / RECORD_BYTES)
+                }
                 _ => 4_096,
             };
             let len = random.pick(&[full.saturating_sub(1), full / 2, 0]);
@@ -71,7 +74,7 @@ pub fn damage(call: &mut Call, reason: u8, random: &Random) {
         },
         16 => {
             let full = index_bytes(&call.catalogue.values(), call.floor).len();
-            shorten(&mut call.bytes, full, RECORD_BYTES, random);
+            shorten(&mut call.bytes, full, INDEX_RECORD, random);
         }
         17 => damage_index(call, random),
         18 => {
@@ -158,25 +161,25 @@ fn damage_catalogue_length(catalogue: &mut Buffer<u8>, random: &Random) {
         _ => {
             // One record over and over; that they are too many comes before their equal identities.
             let record = sky::record(5, sky::anywhere(random));
-            *catalogue = Buffer::repeat(16 * random.pick(&[513, 520]), &record);
+            *catalogue = Buffer::repeat(RECORD_BYTES * random.pick(&[513, 520]), &record);
             return;
         }
     };
-    *catalogue = catalogue.resized(wanted.min(16 * 520));
+    *catalogue = catalogue.resized(wanted.min(RECORD_BYTES * 520));
 }
 
 fn damage_record(catalogue: &mut Buffer<u8>, random: &Random) {
-    let records = catalogue.len / 16;
+    let records = catalogue.len / RECORD_BYTES;
     if records == 0 {
         return;
     }
     for _ in 0..1 + random.below(2) {
         let record = random.pick(&[0, records - 1, random.below(records)]);
-        let at = 16 * record;
-        match random.below(5) {
+        let at = RECORD_BYTES * record;
+        match random.below(6) {
             0 if record > 0 => {
                 // The identity of the record before, or one less than it, or 0.
-                let before = word_at(catalogue, at - 16);
+                let before = word_at(catalogue, at - RECORD_BYTES);
                 let identity = random.pick(&[before, before.wrapping_sub(1), 0]);
                 set_word(catalogue, at, identity);
             }
@@ -193,8 +196,13 @@ fn damage_record(catalogue: &mut Buffer<u8>, random: &Random) {
                 random.shuffle(&mut star);
                 set_star(catalogue, at, star);
             }
+            4 => {
+                // A magnitude just beyond its range, far beyond, or one that is only in range without its high bytes.
+                let beyond = [-2_001, 12_001, i32::MIN, i32::MAX, 65_536 + 5_000, -65_536, 1 << 24];
+                set_word(catalogue, at + 16, random.pick(&beyond) as u32);
+            }
             _ => {
-                let place = at + random.below(16);
+                let place = at + random.below(RECORD_BYTES);
                 let byte = catalogue.get(place);
                 catalogue.set(place, byte ^ (1 << random.below(8)));
             }
@@ -240,7 +248,7 @@ fn damage_vectors(call: &mut Call, random: &Random) {
 
 fn damage_ranking(call: &mut Call, random: &Random) {
     let mut words = call.ranking.values();
-    let stars = (call.catalogue.len / 16).max(1);
+    let stars = (call.catalogue.len / RECORD_BYTES).max(1);
     if words.is_empty() || random.chance(25) {
         words.resize(
             random.pick(&[words.len() + 1, words.len().saturating_sub(1), words.len() + stars, 0]).min(4_200),
@@ -263,39 +271,39 @@ fn damage_ranking(call: &mut Call, random: &Random) {
 /// Makes the index another one than that of the catalogue and the floor.
 fn damage_index(call: &mut Call, random: &Random) {
     let mut bytes = call.index.values();
-    let records = bytes.len() / RECORD_BYTES;
+    let records = bytes.len() / INDEX_RECORD;
     if records == 0 {
         // There is none to change: one too many, or a byte.
-        call.index = Buffer::of(&vec![0; random.pick(&[1, RECORD_BYTES])]);
+        call.index = Buffer::of(&vec![0; random.pick(&[1, INDEX_RECORD])]);
         return;
     }
     let record = random.pick(&[0, records - 1, random.below(records)]);
-    let at = RECORD_BYTES * record;
+    let at = INDEX_RECORD * record;
     match random.below(10) {
         // Another floor: just above the record's dot product, or far off; or the index of another floor.
         0 => {
             let dot = bytes[at..at + 8].iter().fold(0, |dot: u64, &byte| dot << 8 | u64::from(byte)) as i64;
             call.floor = random.pick(&[dot.saturating_add(1), i64::MAX, i64::MIN]);
         }
-        1 => drop(bytes.drain(..at + RECORD_BYTES)),
+        1 => drop(bytes.drain(..at + INDEX_RECORD)),
         // A bit, a record left out, or one twice.
-        2 => bytes[random.below(records * RECORD_BYTES)] ^= 1 << random.below(8),
-        3 => drop(bytes.drain(at..at + RECORD_BYTES)),
-        4 => bytes.extend_from_within(at..at + RECORD_BYTES),
+        2 => bytes[random.below(records * INDEX_RECORD)] ^= 1 << random.below(8),
+        3 => drop(bytes.drain(at..at + INDEX_RECORD)),
+        4 => bytes.extend_from_within(at..at + INDEX_RECORD),
         // Two neighbours exchanged, or the numbers of a record.
-        5 if record > 0 => bytes[at - RECORD_BYTES..at + RECORD_BYTES].rotate_left(RECORD_BYTES),
-        6 => bytes[at + 8..at + RECORD_BYTES].rotate_left(2),
+        5 if record > 0 => bytes[at - INDEX_RECORD..at + INDEX_RECORD].rotate_left(INDEX_RECORD),
+        6 => bytes[at + 8..at + INDEX_RECORD].rotate_left(2),
         // A byte short or long, or nothing at all.
-        7 => bytes.truncate(records * RECORD_BYTES - 1),
+        7 => bytes.truncate(records * INDEX_RECORD - 1),
         8 => bytes.push(0),
         _ if random.chance(50) => bytes.clear(),
         // The index of another catalogue.
         _ => {
             let mirrored = mirrored_catalogue(&call.catalogue).values();
             let mut mixed = call.catalogue.values();
-            let star = 16 * random.below((mixed.len() / 16).max(1));
-            if star + 16 <= mixed.len() {
-                mixed[star..star + 16].copy_from_slice(&mirrored[star..star + 16]);
+            let star = RECORD_BYTES * random.below((mixed.len() / RECORD_BYTES).max(1));
+            if star + RECORD_BYTES <= mixed.len() {
+                mixed[star..star + RECORD_BYTES].copy_from_slice(&mirrored[star..star + RECORD_BYTES]);
             }
             call.catalogue = Buffer::of(&mixed);
         }
@@ -305,7 +313,7 @@ fn damage_index(call: &mut Call, random: &Random) {
 
 /// Leaves fewer directions than are needed, with the ranking cut to them.
 fn lose_directions(call: &mut Call, random: &Random) {
-    let stars = call.catalogue.len / 16;
+    let stars = call.catalogue.len / RECORD_BYTES;
     let keep = random.below(call.needed.clamp(1, 8) as usize).min(call.directions.len / 3);
     call.directions = call.directions.resized(3 * keep);
     call.ranking = call.ranking.resized((keep * stars).min(call.ranking.len));

@@ -1,12 +1,12 @@
 //! Makes calls: plausible ones of every kind, and damage that gives each refusal in each way.
 
-use crate::burst::RECORD_BYTES;
 use crate::call::{Buffer, Call, Entry};
+use crate::catalogue::RECORD_BYTES;
 use crate::damage::damage;
 use crate::lens::Plate;
 use crate::random::Random;
 use crate::sky::{self, Turn};
-use crate::{catalogue, direction, dot, frame, index, ranking};
+use crate::{burst, catalogue, direction, dot, frame, index, ranking};
 
 mod compare;
 mod gimbal;
@@ -125,7 +125,7 @@ pub fn rising_ranking(directions: usize, stars: usize) -> Vec<u16> {
 
 /// The ranking our vote gives for these directions and stars.
 pub fn voted_ranking(directions: &[[i32; 3]], catalogue: &[u8], tolerance: u64) -> Vec<u16> {
-    let mut room = vec![0; directions.len() * (catalogue.len() / 16)];
+    let mut room = vec![0; directions.len() * (catalogue.len() / RECORD_BYTES)];
     ranking::ranking(&flat(directions), catalogue, tolerance.into(), &mut room)
         .expect("directions and catalogue keep their rules");
     room
@@ -205,7 +205,7 @@ impl View {
 /// The catalogue of the same stars seen in a mirror.
 pub fn mirrored_catalogue(catalogue: &Buffer<u8>) -> Buffer<u8> {
     let mut bytes = catalogue.values();
-    for record in bytes.chunks_exact_mut(16) {
+    for record in bytes.chunks_exact_mut(RECORD_BYTES) {
         let x = i32::from_be_bytes([record[4], record[5], record[6], record[7]]);
         record[4..8].copy_from_slice(&x.wrapping_neg().to_be_bytes());
     }
@@ -216,7 +216,7 @@ pub fn mirrored_catalogue(catalogue: &Buffer<u8>) -> Buffer<u8> {
 
 /// The whole index of a catalogue; empty where the catalogue breaks its rules.
 pub fn index_bytes(catalogue: &[u8], floor: i64) -> Vec<u8> {
-    let records = catalogue.len() / 16;
+    let records = catalogue.len() / RECORD_BYTES;
     let mut room = vec![0; index::RECORD_BYTES * (records * records.saturating_sub(1) / 2)];
     let count = index::index(catalogue, floor.into(), &mut room).unwrap_or(0);
     room.truncate(index::RECORD_BYTES * count);
@@ -406,7 +406,7 @@ pub fn burst_of(random: &Random, first: &Call, frames: usize) -> Call {
         }
     }
     let spare = random.pick(&[0, 0, 1, 79, 80]);
-    call.bytes = Buffer::repeat(RECORD_BYTES * frames + spare, &[0x5A, 3, 255]);
+    call.bytes = Buffer::repeat(burst::RECORD_BYTES * frames + spare, &[0x5A, 3, 255]);
     call
 }
 
@@ -635,7 +635,7 @@ pub fn add_doubles(random: &Random, call: &mut Call) {
         let place = random.pick(&stars).direction.map(|component| component as i32);
         let star = if random.chance(50) { place } else { sky::near(random, place, 1_000_000_000) };
         identity += 1;
-        bytes.extend(sky::record(identity, star));
+        bytes.extend(sky::record_of(identity, star, sky::any_magnitude(random)));
         for row in &mut rows {
             row.insert(random.below(row.len() + 1), (stars.len() + double) as u16);
         }

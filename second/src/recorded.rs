@@ -2,13 +2,14 @@
 //! library can be run over them anywhere. The same calls come out each time.
 
 use crate::call::{Buffer, Call, Entry, Outcome, ENTRIES};
+use crate::catalogue::RECORD_BYTES;
 use crate::damage::damage;
 use crate::float::Float;
 use crate::generate::*;
 use crate::lens::Plate;
 use crate::random::Random;
 use crate::search::Effort;
-use crate::sky::{self, record};
+use crate::sky::{self, record, record_of};
 
 mod compare;
 mod gimbal;
@@ -544,14 +545,14 @@ fn catalogues(random: &Random, calls: &mut Vec<Call>) {
         let stars = random_stars(random, count);
         calls.push(catalogue_call(&sky::catalogue(random, &stars)));
     }
-    for len in (0..=49).chain([8_191, 8_192, 8_193, 8_207, 8_208, 8_320]) {
+    for len in (0..=61).chain([8_192, 8_200, 10_239, 10_240, 10_241, 10_256, 10_260, 10_400]) {
         let records: Vec<u8> =
             (0..520).flat_map(|identity| record(identity, [1_000_000_000, 0, 0])).collect();
         let mut call = catalogue_call(&records[..len]);
-        if len > 49 {
+        if len > 61 {
             // The records differ in two bytes of their identity only.
-            call.catalogue = Buffer::repeat(len, &records[..16]);
-            for k in (0..len).filter(|&k| k % 16 == 2 || k % 16 == 3) {
+            call.catalogue = Buffer::repeat(len, &records[..RECORD_BYTES]);
+            for k in (0..len).filter(|&k| [2, 3].contains(&(k % RECORD_BYTES))) {
                 call.catalogue.set(k, records[k]);
             }
         }
@@ -620,6 +621,36 @@ fn catalogues(random: &Random, calls: &mut Vec<Call>) {
         catalogue_call(&sky::catalogue(random, &random_stars(random, count)))
     };
     damaged(random, Entry::Catalogue, 120, 80, sound, calls);
+    magnitudes(random, calls);
+}
+
+/// Each magnitude at a limit or beyond, alone and among sound records; and files of the old form.
+fn magnitudes(random: &Random, calls: &mut Vec<Call>) {
+    let star = [600_000_000, 0, -800_000_000];
+    let limits = [-2_001, -2_000, -1_999, -1, 0, 1, 11_999, 12_000, 12_001];
+    let beyond = [i32::MIN, i32::MAX, 65_536, -65_536, 1 << 24, 255 << 8, 0x00FF_FFFF, -12_000, 53_536];
+    for magnitude in limits.into_iter().chain(beyond) {
+        calls.push(catalogue_call(&record_of(7, star, magnitude)));
+        for place in 0..3 {
+            let mut records = [5, 6, 7].map(|identity| record(identity, star));
+            records[place] = record_of(5 + place as u32, star, magnitude);
+            calls.push(catalogue_call(&records.concat()));
+        }
+    }
+    // A magnitude that breaks its rule, and a direction or an identity that does, before or after it.
+    for (first, second) in [(0, 1), (1, 0), (0, 2), (2, 1), (1, 2), (2, 0)] {
+        for other in [record(0, star), record_of(6, [1, 2, 3], 0), record_of(7, star, i32::MIN)] {
+            let mut records = [5, 6, 7].map(|identity| record(identity, star));
+            records[first] = record_of(5 + first as u32, star, 12_001);
+            records[second] = other;
+            calls.push(catalogue_call(&records.concat()));
+        }
+    }
+    // Records of 16 bytes: as many as make a multiple of 20, and other numbers of them.
+    for count in [1, 2, 4, 5, 6, 10, 15] {
+        let old: Vec<u8> = (0..count).flat_map(|_| record(0, sky::anywhere(random))[..16].to_vec()).collect();
+        calls.push(catalogue_call(&old));
+    }
 }
 
 // Rankings.
@@ -1140,7 +1171,7 @@ fn chains(random: &Random, calls: &mut Vec<Call>) {
         call.lens = Plate::of_focal(focal)
     });
     vary(calls, &document, &[0, 1, 100, 101, 4_095, 4_096], |call, threshold| call.threshold = threshold);
-    vary(calls, &document, &[0, 16, 32, 47, 48, 49], |call, len| {
+    vary(calls, &document, &[0, 20, 40, 59, 60, 61], |call, len| {
         call.catalogue = call.catalogue.resized(len)
     });
 
@@ -1180,7 +1211,7 @@ fn chains(random: &Random, calls: &mut Vec<Call>) {
         call.catalogue = Buffer::of(&sky::catalogue(random, &stars));
         calls.push(call);
         let mut call = scene(random, 80, 60, 3 + random.below(3), 6);
-        call.catalogue = call.catalogue.resized(call.catalogue.len - 16);
+        call.catalogue = call.catalogue.resized(call.catalogue.len - RECORD_BYTES);
         calls.push(call);
     }
     for _ in 0..60 {
@@ -1497,8 +1528,8 @@ fn index_faults(random: &Random, calls: &mut Vec<Call>) {
             0 => call.directions = call.directions.resized(8),
             1 => call.tolerance = MOST_TOLERANCE + 1,
             2 => call.room = call.room.resized(1),
-            3 => call.catalogue = call.catalogue.resized(63),
-            _ => call.catalogue.set(16, 255),
+            3 => call.catalogue = call.catalogue.resized(4 * RECORD_BYTES - 1),
+            _ => call.catalogue.set(RECORD_BYTES, 255),
         }
     });
 }
@@ -1609,7 +1640,7 @@ fn bursts(random: &Random, calls: &mut Vec<Call>) {
     vary(calls, &document, &[2, 3, 4, 8, 9], |call, needed| call.needed = needed);
     vary(calls, &document, &[0, 1, 50, 101, 4_096], |call, threshold| call.threshold = threshold);
     vary(calls, &document, &[-1, 20_481, 261_889], |call, cx| call.cx = cx);
-    vary(calls, &document, &[0, 32, 47, 48, 49], |call, len| call.catalogue = call.catalogue.resized(len));
+    vary(calls, &document, &[0, 40, 59, 60, 61], |call, len| call.catalogue = call.catalogue.resized(len));
     vary(calls, &document, &[-1, 1, 100, 19_199], |call, off| {
         call.samples = call.samples.resized((call.samples.len as i64 + off) as usize)
     });
@@ -1627,7 +1658,7 @@ fn bursts(random: &Random, calls: &mut Vec<Call>) {
     vary(calls, &nothing, &[0, 9], |call, needed| call.needed = needed);
     vary(calls, &nothing, &[0, 1, 80], |call, len| call.bytes = Buffer::repeat(len, &[9]));
     vary(calls, &nothing, &[6, 7, 1_024, 1_025], |call, width| call.width = width);
-    vary(calls, &nothing, &[0, 15], |call, len| call.catalogue = call.catalogue.resized(len));
+    vary(calls, &nothing, &[0, 19], |call, len| call.catalogue = call.catalogue.resized(len));
     vary(calls, &nothing, &[0, 4_095], |call, len| call.room = call.room.resized(len));
     // The most frames and more.
     for frames in [1, 2, 63, 64, 65, 66, 128] {

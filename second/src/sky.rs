@@ -1,5 +1,6 @@
 //! Made-up skies: star directions within the catalogue's rules, and camera turns, all in whole numbers.
 
+use crate::catalogue::RECORD_BYTES;
 use crate::random::Random;
 use crate::{dot, root, UNIT};
 
@@ -86,23 +87,37 @@ impl Turn {
     }
 }
 
-/// The catalogue's bytes: the stars in the given order, with rising identities.
+/// The catalogue's bytes: the stars in the given order, with rising identities and any magnitudes.
 pub fn catalogue(random: &Random, stars: &[[i32; 3]]) -> Vec<u8> {
     let mut identity = random.below(1_000) as u32;
-    let mut bytes = Vec::with_capacity(16 * stars.len());
+    let mut bytes = Vec::with_capacity(RECORD_BYTES * stars.len());
     for star in stars {
-        bytes.extend(record(identity, *star));
+        bytes.extend(record_of(identity, *star, any_magnitude(random)));
         identity += 1 + random.below(4_000_000) as u32;
     }
     bytes
 }
 
-pub fn record(identity: u32, star: [i32; 3]) -> [u8; 16] {
-    let mut bytes = [0; 16];
+/// A magnitude in thousandths, sometimes the least or the greatest there may be.
+pub fn any_magnitude(random: &Random) -> i32 {
+    match random.below(8) {
+        0 => random.pick(&[-2_000, 12_000, -1, 0]),
+        _ => random.between(-2_000, 12_000) as i32,
+    }
+}
+
+/// A star of magnitude 2.5.
+pub fn record(identity: u32, star: [i32; 3]) -> [u8; RECORD_BYTES] {
+    record_of(identity, star, 2_500)
+}
+
+pub fn record_of(identity: u32, star: [i32; 3], magnitude: i32) -> [u8; RECORD_BYTES] {
+    let mut bytes = [0; RECORD_BYTES];
     bytes[..4].copy_from_slice(&identity.to_be_bytes());
     for (k, component) in star.iter().enumerate() {
         bytes[4 + 4 * k..8 + 4 * k].copy_from_slice(&component.to_be_bytes());
     }
+    bytes[16..].copy_from_slice(&magnitude.to_be_bytes());
     bytes
 }
 

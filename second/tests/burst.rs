@@ -96,7 +96,7 @@ fn a_fault_of_the_settings_stands_in_every_record() {
         (records[3], records[7])
     };
     let stars = catalogue();
-    let repeated = [&stars[..], &stars[..16]].concat();
+    let repeated = [&stars[..], &stars[..20]].concat();
     assert_eq!(given(&|set| set.threshold = 0, &stars, 4_096), (3, 0));
     assert_eq!(given(&|set| set.lens = Plate::of_focal(0), &stars, 4_096), (19, 0));
     assert_eq!(given(&|set| set.cy = -1, &stars, 4_096), (5, 0));

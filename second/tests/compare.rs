@@ -104,7 +104,7 @@ fn the_list_in_plain_terms() {
             let kind = match (in_first, in_second) {
                 (Some(_), None) => 1,
                 (None, _) => 2,
-                (Some(a), Some(b)) => 3 * u32::from(a.direction != b.direction),
+                (Some(a), Some(b)) => 3 * u32::from(a.direction != b.direction || a.magnitude != b.magnitude),
             };
             let found = listed.iter().find(|record| record.0 == star.identity).map_or(0, |record| record.1);
             assert_eq!(found, kind);

@@ -96,9 +96,9 @@ fn a_room_too_short_is_left_alone() {
     }
     // A catalogue that breaks its rules comes first.
     assert_eq!(index(&stars[1..], 0, &mut []), Err(Refusal::new(6)));
-    assert_eq!(index(&[&stars[..16], &stars[..16]].concat(), 0, &mut []), Err(Refusal::at(7, 1)));
+    assert_eq!(index(&[&stars[..20], &stars[..20]].concat(), 0, &mut []), Err(Refusal::at(7, 1)));
     // No pair, no room.
-    assert_eq!(index(&stars[..16], i128::from(i64::MIN), &mut []), Ok(0));
+    assert_eq!(index(&stars[..20], i128::from(i64::MIN), &mut []), Ok(0));
     assert_eq!(index(&stars, i128::from(i64::MAX), &mut []), Ok(0));
 }
 
@@ -202,7 +202,7 @@ fn the_index_is_tested_after_the_catalogue_and_before_the_rest() {
     };
     let (right, too_much) = (bytes(&stars, 0), 10_000_000_000_000_001);
     assert_eq!(answer(&sound[1..], &[1], &[1], too_much, 0), Err(6));
-    assert_eq!(answer(&[&sound[..], &sound[..16]].concat(), &[1], &[1], too_much, 0), Err(7));
+    assert_eq!(answer(&[&sound[..], &sound[..20]].concat(), &[1], &[1], too_much, 0), Err(7));
     assert_eq!(answer(&sound, &[1], &[1], too_much, 0), Err(17));
     assert_eq!(answer(&sound, &right, &[1], too_much, 0), Err(8));
     assert_eq!(answer(&sound, &right, &[1, 2, 3], too_much, 0), Err(9));

@@ -220,7 +220,7 @@ fn earlier_refusals_print_one_line() {
         "refused 4 5\n"
     );
     assert_eq!(refused(&|f| f.catalogue.clear()), "refused 6 0\n");
-    assert_eq!(refused(&|f| f.catalogue[35] = 22), "refused 7 2\n");
+    assert_eq!(refused(&|f| f.catalogue[43] = 22), "refused 7 2\n");
     assert_eq!(refused(&|f| f.settings[7] = 2), "refused 9 0\n");
     assert_eq!(refused(&|f| f.settings[24] = 255), "refused 9 0\n");
     // Several at once: the lowest number is given.
@@ -289,5 +289,5 @@ fn the_rival_is_refused_as_the_chain_is() {
     assert_eq!(refused(&|f| f.catalogue[3] = 22), "refused 7 1\n");
     assert_eq!(refused(&|f| f.settings[7] = 2), "refused 9 0\n");
     assert_eq!(refused(&|f| f.settings[7] = 4), "refused 12 0\n");
-    assert_eq!(refused(&|f| f.catalogue.truncate(32)), "refused 13 0\n");
+    assert_eq!(refused(&|f| f.catalogue.truncate(40)), "refused 13 0\n");
 }

@@ -55,7 +55,7 @@ impl Reader<'_> {
     }
 
     fn catalogue(&mut self) -> Vec<u8> {
-        self.buffer(1, 16 * 520).into_iter().map(|n| n as u8).collect()
+        self.buffer(1, 20 * 520).into_iter().map(|n| n as u8).collect()
     }
 
     /// An index, or a room for one, for a burst's records or for a list of changes.

@@ -94,7 +94,7 @@ fn the_rival_is_the_first_that_differs() {
             0 => dense::search(&random, 3 + random.below(2), 3 + random.below(4)),
             _ => any_rival(&random),
         };
-        let (directions, stars) = (call.directions.len / 3, call.catalogue.len / 16);
+        let (directions, stars) = (call.directions.len / 3, call.catalogue.len / 20);
         if stars.pow(directions as u32) > 4_000 {
             continue;
         }
@@ -125,7 +125,7 @@ fn the_rival_is_the_first_that_differs() {
         assert_eq!(answer, Ok(expected.map_or(Rivalry::Alone, |other| Rivalry::Rival(other.clone()))));
     }
     assert!(
-        alone > 100 && rivals > 100 && not_second > 30 && refused > 100,
+        alone > 100 && rivals > 100 && not_second > 15 && refused > 100,
         "{alone} {rivals} {not_second} {refused}"
     );
 }

@@ -149,7 +149,7 @@ fn longest() -> Vec<Files> {
     let mut cases = Vec::new();
     for call in [accepted, close] {
         let whole = files_of(&call).expect("its numbers fit their fields");
-        for (k, more) in [(0, 1), (1, 1), (1, 16), (2, 1), (2, 2)] {
+        for (k, more) in [(0, 1), (1, 1), (1, 20), (2, 1), (2, 2)] {
             let mut files = whole.clone();
             files[k].as_mut().expect("all files are there").extend(vec![0; more]);
             cases.push(files);

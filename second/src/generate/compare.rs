@@ -39,7 +39,7 @@ pub fn any_compare(random: &Random) -> Call {
     }
 }
 
-/// The catalogue after stars were taken away, put in and moved, more or fewer of them.
+/// The catalogue after stars were taken away, put in, moved and dimmed, more or fewer of them.
 pub fn changed(random: &Random, first: &[u8]) -> Vec<u8> {
     let percent = random.pick(&[5, 30, 90]);
     let mut second = Vec::new();
@@ -62,13 +62,13 @@ pub fn changed(random: &Random, first: &[u8]) -> Vec<u8> {
     }
 }
 
-/// The record with one component a little larger or smaller, if it is still a star then.
+/// The record with one component or the magnitude a little larger or smaller, if it is still a star then.
 fn moved(random: &Random, record: &[u8]) -> Vec<u8> {
     let mut moved = record.to_vec();
-    let at = 4 + 4 * random.below(3);
-    let component = i32::from_be_bytes([moved[at], moved[at + 1], moved[at + 2], moved[at + 3]]);
+    let at = 4 + 4 * random.below(4);
+    let number = i32::from_be_bytes([moved[at], moved[at + 1], moved[at + 2], moved[at + 3]]);
     let step = random.pick(&[1, -1, 256, -65_536]);
-    moved[at..at + 4].copy_from_slice(&component.wrapping_add(step).to_be_bytes());
+    moved[at..at + 4].copy_from_slice(&number.wrapping_add(step).to_be_bytes());
     match catalogue::read(&moved) {
         Ok(_) => moved,
         Err(_) => record.to_vec(),
@@ -78,5 +78,5 @@ fn moved(random: &Random, record: &[u8]) -> Vec<u8> {
 /// A star whose identity is one more.
 fn next_identity(random: &Random, record: &[u8]) -> Vec<u8> {
     let identity = u32::from_be_bytes([record[0], record[1], record[2], record[3]]);
-    sky::record(identity.saturating_add(1), sky::anywhere(random)).to_vec()
+    sky::record_of(identity.saturating_add(1), sky::anywhere(random), sky::any_magnitude(random)).to_vec()
 }

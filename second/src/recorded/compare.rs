@@ -2,10 +2,11 @@
 
 use super::{damaged, vary};
 use crate::call::{Buffer, Call, Entry};
+use crate::catalogue::RECORD_BYTES;
 use crate::damage::{damage, damage_catalogue};
 use crate::generate::{any_call, any_compare, changed, compare_of, random_stars};
 use crate::random::Random;
-use crate::sky::{self, record};
+use crate::sky::{self, record, record_of};
 
 const UNIT: i32 = 1_000_000_000;
 
@@ -52,7 +53,7 @@ pub fn pairs(random: &Random, calls: &mut Vec<Call>) {
     damaged(random, Entry::Compare, 15, 30, || any_compare(random), calls);
 }
 
-/// Each component alone, by one and by much, in the first, the middle and the last record.
+/// Each component and the magnitude alone, by one and by much, in the first, the middle and the last record.
 fn moved_stars(random: &Random, calls: &mut Vec<Call>) {
     let star = [600_000_000, 0, 800_000_000];
     let sound = [record(3, star), record(8, [0, UNIT, 0]), record(9, star)].concat();
@@ -66,8 +67,20 @@ fn moved_stars(random: &Random, calls: &mut Vec<Call>) {
             [0, 0, UNIT],
         ] {
             let mut moved = sound.clone();
-            moved[16 * place + 4..16 * place + 16].copy_from_slice(&record(0, other)[4..16]);
+            let at = RECORD_BYTES * place;
+            moved[at + 4..at + 16].copy_from_slice(&record(0, other)[4..16]);
             calls.push(compare_of(&sound, &moved, random.pick(&[0, 8])));
+        }
+    }
+    // The magnitude alone, and with a component.
+    for magnitude in [2_499, 2_501, -2_000, 12_000, 2_500 - 256, 2_500 + 256] {
+        for place in 0..3 {
+            let mut dimmed = sound.clone();
+            let at = RECORD_BYTES * place;
+            dimmed[at + 16..at + 20].copy_from_slice(&record_of(0, star, magnitude)[16..]);
+            calls.push(compare_of(&sound, &dimmed, 0));
+            dimmed[at + 4..at + 16].copy_from_slice(&record(0, [0, 0, UNIT])[4..16]);
+            calls.push(compare_of(&dimmed, &sound, 0));
         }
     }
     // The same direction under another identity is another star.

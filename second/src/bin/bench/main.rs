@@ -4,8 +4,8 @@
 //! the worst and the median of many random searches.
 
 mod bursts;
+mod catalogues;
 mod clock;
-mod compares;
 mod frames;
 mod gimbals;
 mod indexes;
@@ -38,7 +38,7 @@ fn rows(part: &str) -> bool {
         frames::inputs(&random),
         rankings::inputs(&random),
         hard::searches(&random),
-        compares::inputs(&random),
+        catalogues::inputs(&random),
         rivals::inputs(&random),
     ]
     .concat();
