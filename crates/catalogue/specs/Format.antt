@@ -1,5 +1,5 @@
--- The catalogue's format: a record has four words of 4 bytes, high byte first: the identity, which has no sign, and x, y and z, which have one. Nothing
--- stands before the first record.
+-- The catalogue's format: a record has five words of 4 bytes, high byte first: the identity, which has no sign, and x, y, z and the magnitude, which have
+-- one. Nothing stands before the first record.
 -- Assumes nothing.
 use mathlib.Core.Bool.{cond}
 use mathlib.Core.List.{List}
@@ -11,7 +11,7 @@ use Rattle.words.specs.Number.{numberAt}
 
 -- how many bytes a record has
 abbrev pub recordSize : ℕ
-recordSize = 16
+recordSize = 20
 
 -- and how many records a catalogue may have
 abbrev pub mostRecords : ℕ
@@ -32,3 +32,7 @@ identityOf bytes i = numberAt bytes (recordSize * i) 4
 -- its component 0, 1 or 2: x, y or z
 unfoldable pub componentOf : List ℕ → ℕ → ℕ → ℤ
 componentOf bytes i axis = signedOf (numberAt bytes (recordSize * i + (4 + 4 * axis)) 4)
+
+-- its magnitude in thousandths: the word after z
+unfoldable pub magnitudeOf : List ℕ → ℕ → ℤ
+magnitudeOf bytes i = signedOf (numberAt bytes (recordSize * i + 16) 4)

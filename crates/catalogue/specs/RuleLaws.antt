@@ -1,17 +1,17 @@
 -- The test of a length and the test of a record say exactly what the rules say. Assumes nothing.
-use mathlib.Core.Bool.{Bool, true, _&&_, and-eq-true-iff}
-use mathlib.Core.Path.{_≡_, refl, subst}
+use mathlib.Core.Bool.{Bool, true, false, _&&_, and-eq-true-iff}
+use mathlib.Core.Path.{_≡_, refl, sym, subst}
 use mathlib.Core.List.{List}
 use Prim.Native.Nat.{ℕ, zero, suc, _/_, _%_, _<_}
 use native.Mathlib.Omega.{arith}
 use borrow.Author.Tests.{leb-true, le-leb, ltb-true, lt-ltb, eqb-true, eq-eqb}
-use lib.Dec.{leb, eqb}
+use lib.Dec.{T, leb, eqb}
 use lib.IntN.{ℤ, pos, natAbs, _-ℤ_}
 use lib.ListN.{length}
+use lib.Signed.{leZ, _≤ℤ_}
 use Rattle.numbers.specs.Within.{Within}
-use Rattle.catalogue.specs.Format.{recordSize, mostRecords, recordsIn, identityOf, componentOf}
-use Rattle.catalogue.specs.Rule.{largest, squareSum, slack, inRange, squares, normOk, directionOk, identityRises, recordOk}
-use Rattle.catalogue.specs.RuleSteps.{starOk}
+use Rattle.catalogue.specs.Format.{recordSize, mostRecords, recordsIn, identityOf, componentOf, magnitudeOf}
+use Rattle.catalogue.specs.Rule.{largest, squareSum, slack, inRange, squares, normOk, directionOk, brightest, faintest, magnitudeOk, starOk, identityRises, recordOk}
 use Rattle.catalogue.specs.Check.{lengthOk}
 use Rattle.catalogue.specs.Valid.{LengthRule, StarRule, RecordRule}
 
@@ -40,6 +40,13 @@ module _ (bytes : List ℕ) where
 near : (b : ℕ) (z : ℤ) → leb (natAbs z) b ≡ true → Within b z
 near b z e = record { within = leb-true (natAbs z) b e }
 
+at-most : {a b : ℤ} → leZ a b ≡ true → a ≤ℤ b
+at-most e = record { le = subst T (sym e) tt }
+
+is-true : (t : Bool) → T t → t ≡ true
+is-true true h = refl
+is-true false h = absurd h
+
 module _ (bytes : List ℕ) (i : ℕ) where
   abbrev x : ℤ
   x = componentOf bytes i 0
@@ -50,19 +57,32 @@ module _ (bytes : List ℕ) (i : ℕ) where
   abbrev z : ℤ
   z = componentOf bytes i 2
 
+  abbrev m : ℤ
+  m = magnitudeOf bytes i
+
   ok-star : starOk bytes i ≡ true → StarRule bytes i
-  unfolding directionOk
+  unfolding directionOk magnitudeOk
   ok-star e =
-      let p = both (inRange x && inRange y && inRange z) (normOk x y z) e in
+      let d = both (directionOk x y z) (magnitudeOk m) e in
+      let p = both (inRange x && inRange y && inRange z) (normOk x y z) (d .0) in
       let q = both (inRange x && inRange y) (inRange z) (p .0) in
       let r = both (inRange x) (inRange y) (q .0) in
-      record { x = near largest x (r .0); y = near largest y (r .1); z = near largest z (q .1); norm = near slack (squares x y z -ℤ pos squareSum) (p .1) }
+      let s = both (leZ brightest m) (leZ m faintest) (d .1) in
+      record {
+        x = near largest x (r .0);
+        y = near largest y (r .1);
+        z = near largest z (q .1);
+        norm = near slack (squares x y z -ℤ pos squareSum) (p .1);
+        bright = at-most (s .0);
+        faint = at-most (s .1);
+      }
 
   star-ok : StarRule bytes i → starOk bytes i ≡ true
-  unfolding directionOk
+  unfolding directionOk magnitudeOk
   star-ok h =
-      rw (le-leb (natAbs x) largest (h .x .within), le-leb (natAbs y) largest (h .y .within), le-leb (natAbs z) largest (h .z .within))
-      (le-leb (natAbs (squares x y z -ℤ pos squareSum)) slack (h .norm .within))
+      let d : directionOk x y z ≡ true = rw (le-leb (natAbs x) largest (h .x .within), le-leb (natAbs y) largest (h .y .within), le-leb (natAbs z) largest (h .z .within))
+      (le-leb (natAbs (squares x y z -ℤ pos squareSum)) slack (h .norm .within)) in
+      rw (d, is-true (leZ brightest m) (h .bright .le)) (is-true (leZ m faintest) (h .faint .le))
 
 -- ---- and against the record before
 

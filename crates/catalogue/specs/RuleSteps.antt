@@ -5,13 +5,19 @@ use mathlib.Core.List.{List}
 use Prim.Native.Nat.{ℕ, zero, suc, _-_}
 use native.Mathlib.Omega.{arith}
 use lib.Dec.{ltb}
-use Rattle.catalogue.specs.Format.{identityOf, componentOf}
-use Rattle.catalogue.specs.Rule.{directionOk, identityRises, recordOk}
-
-abbrev pub starOk : List ℕ → ℕ → Bool
-starOk bytes i = directionOk (componentOf bytes i 0) (componentOf bytes i 1) (componentOf bytes i 2)
+use Rattle.catalogue.specs.Format.{identityOf, componentOf, magnitudeOf}
+use Rattle.catalogue.specs.Rule.{directionOk, magnitudeOk, starOk, identityRises, recordOk}
 
 module _ (bytes : List ℕ) (i : ℕ) where
+  abbrev pub direction : Bool
+  direction = directionOk (componentOf bytes i 0) (componentOf bytes i 1) (componentOf bytes i 2)
+
+  pub direction-broken : direction ≡ false → starOk bytes i ≡ false
+  direction-broken e = rw e
+
+  pub direction-kept : direction ≡ true → starOk bytes i ≡ magnitudeOk (magnitudeOf bytes i)
+  direction-kept e = rw e
+
   pub star-broken : starOk bytes i ≡ false → recordOk bytes i ≡ false
   unfolding recordOk
   star-broken e = rw e

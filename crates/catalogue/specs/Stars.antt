@@ -1,11 +1,11 @@
--- The stars of a catalogue as numbers, three a star, and a record's identity. Assumes nothing.
+-- The stars of a catalogue as numbers, three a star, and a record's identity and magnitude. Assumes nothing.
 use mathlib.Core.Bool.{cond}
 use mathlib.Core.List.{List, [], _∷_, _++_}
 use Prim.Native.Nat.{ℕ, zero, suc, _-_, min}
 use lib.Dec.{ltb}
 use lib.IntN.{ℤ, pos}
 use lib.ListN.{length, replicate}
-use Rattle.catalogue.specs.Format.{mostRecords, recordsIn, identityOf, componentOf}
+use Rattle.catalogue.specs.Format.{mostRecords, recordsIn, identityOf, componentOf, magnitudeOf}
 
 -- how many records are decoded: no more than a catalogue may have
 abbrev pub starsIn : List ℕ → ℕ
@@ -30,3 +30,7 @@ padded list = list ++ replicate (1536 - length list) (pos 0)
 -- the identity of record i, and 0 where there is no such record
 unfoldable pub identityFor : List ℕ → ℕ → ℕ
 identityFor bytes i = cond (ltb i (recordsIn bytes)) (identityOf bytes i) 0
+
+-- its magnitude, and 0 where there is no such record
+unfoldable pub magnitudeFor : List ℕ → ℕ → ℤ
+magnitudeFor bytes i = cond (ltb i (recordsIn bytes)) (magnitudeOf bytes i) (pos 0)

@@ -3,10 +3,11 @@ use mathlib.Core.Path.{_≡_}
 use mathlib.Core.List.{List}
 use Prim.Native.Nat.{ℕ, suc, _*_, _≤_, _<_}
 use lib.IntN.{pos, _-ℤ_}
+use lib.Signed.{_≤ℤ_}
 use lib.ListN.{length}
 use Rattle.numbers.specs.Within.{Within}
-use Rattle.catalogue.specs.Format.{recordSize, mostRecords, recordsIn, identityOf, componentOf}
-use Rattle.catalogue.specs.Rule.{largest, squareSum, slack, squares}
+use Rattle.catalogue.specs.Format.{recordSize, mostRecords, recordsIn, identityOf, componentOf, magnitudeOf}
+use Rattle.catalogue.specs.Rule.{largest, squareSum, slack, squares, brightest, faintest}
 
 -- whole records, 1 to 512
 pub record LengthRule (bytes : List ℕ) : Type 0 where
@@ -20,6 +21,8 @@ pub record StarRule (bytes : List ℕ) (i : ℕ) : Type 0 where
   pub y : Within largest (componentOf bytes i 1)
   pub z : Within largest (componentOf bytes i 2)
   pub norm : Within slack (squares (componentOf bytes i 0) (componentOf bytes i 1) (componentOf bytes i 2) -ℤ pos squareSum)
+  pub bright : brightest ≤ℤ magnitudeOf bytes i
+  pub faint : magnitudeOf bytes i ≤ℤ faintest
 
 -- and against the record before, if there is one
 pub record RecordRule (bytes : List ℕ) (i : ℕ) : Type 0 where

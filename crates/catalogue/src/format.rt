@@ -3,7 +3,7 @@ use crate::RECORD_SIZE;
 ghost use mathlib.Core.Path.{_≡_};
 ghost use Prim.Native.Nat.{_+_, _*_, _<_, _≤_};
 ghost use lib.ListN.{length};
-ghost use Rattle.catalogue.specs.Format.{recordSize, signedOf, identityOf, componentOf};
+ghost use Rattle.catalogue.specs.Format.{recordSize, signedOf, identityOf, componentOf, magnitudeOf};
 
 // A word read as a signed number: from 2^31 on it stands for the number that is 2^32 below it.
 fn signed(w: u32) -> i32
@@ -29,4 +29,12 @@ pub(crate) fn component(bytes: &[u8], i: usize, axis: usize) -> i32
     ensures { λ r. ⌜ r ≡ componentOf (now (bytes .entry)) i axis ⌝ }
 {
     signed(words::u32_at(bytes, RECORD_SIZE * i + (4 + 4 * axis)))
+}
+
+// The magnitude of record i, in thousandths.
+pub(crate) fn magnitude(bytes: &[u8], i: usize) -> i32
+    requires { ⌜ recordSize * i + recordSize ≤ length (now bytes) ⌝ }
+    ensures { λ r. ⌜ r ≡ magnitudeOf (now (bytes .entry)) i ⌝ }
+{
+    signed(words::u32_at(bytes, RECORD_SIZE * i + 16))
 }

@@ -6,10 +6,10 @@ use refusal::Refusal;
 ghost use mathlib.Core.Path.{_≡_};
 ghost use Rattle.catalogue.specs.Format.{recordsIn};
 ghost use Rattle.catalogue.specs.Check.{lengthOk, checkedOf, answerOf, answerFor};
-ghost use Rattle.catalogue.specs.Stars.{starsIn, starsOf, padded, identityFor};
+ghost use Rattle.catalogue.specs.Stars.{starsIn, starsOf, padded, identityFor, magnitudeFor};
 
 // How many bytes a record has.
-pub const RECORD_SIZE: usize = 16;
+pub const RECORD_SIZE: usize = 20;
 
 // The most records that a catalogue may have.
 pub const MOST_RECORDS: usize = 512;
@@ -91,6 +91,16 @@ pub fn identity(bytes: &[u8], i: usize) -> u32
 {
     if i < records(bytes) {
         return format::identity(bytes, i);
+    }
+    0
+}
+
+// The magnitude of record i in thousandths, and 0 where there is no such record.
+pub fn magnitude(bytes: &[u8], i: usize) -> i32
+    ensures { λ r. ⌜ r ≡ magnitudeFor (now (bytes .entry)) i ⌝ }
+{
+    if i < records(bytes) {
+        return format::magnitude(bytes, i);
     }
     0
 }

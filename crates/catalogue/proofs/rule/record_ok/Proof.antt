@@ -3,59 +3,20 @@ use mathlib.Core.Bool.{true}
 use mathlib.Core.Path.{_≡_, sym, _∙_}
 use borrow.Author.Tests.{not-true, not-false}
 use lib.Dec.{ltb}
-use mir.Syntax.{w32, w64}
-use Rattle.numbers.specs.Num.{Num, held, cast, fits, back}
-use Rattle.catalogue.specs.Rule.{directionOk}
-use Rattle.catalogue.specs.RuleSteps.{starOk, star-broken, star-kept, rises-first, rises-next}
+use Rattle.catalogue.specs.Rule.{starOk}
+use Rattle.catalogue.specs.RuleSteps.{star-broken, star-kept, rises-first, rises-next}
 use borrow.Author.Needs.{needs}
 use Rattle.catalogue.proofs.rule.record_ok.Statement.{statement}
 use Rattle.catalogue.proofs.rule.record_ok.Tie as tie
 
-abbrev x : tie.After-component → Num w64
-x c = cast {w = w32} (held (c .component .result) (c .component .ok)) tt
+kept : (c : tie.Else1) → starOk (c .before .before .before .args .bytes .now) (c .before .before .before .args .i) ≡ true
+kept c = sym (c .before .star-ok .ensures) ∙ not-false _ (c .if1 .left)
 
-abbrev y : tie.After-component2 → Num w64
-y c = cast {w = w32} (held (c .component2 .result) (c .component2 .ok)) tt
-
-abbrev z : tie.After-component3 → Num w64
-z c = cast {w = w32} (held (c .component3 .result) (c .component3 .ok)) tt
-
--- the test of the direction, of the numbers that the record holds
-tested : (c : tie.After-direction-ok) → c .direction-ok .result ≡ starOk (c .before .before .before .before .before .args .bytes .now) (c .before .before .before .before .before .args .i)
-tested c =
-    let p = c .before in
-    let q = p .before in
-    let ex = back (x (q .before)) ∙ q .before .component .ensures in
-    let ey = back (y q) ∙ q .component2 .ensures in
-    let ez = back (z p) ∙ p .component3 .ensures in
-    c .direction-ok .ensures ∙ (λ j. directionOk (ex j) (ey j) (ez j))
-
-kept : (c : tie.Else1) → starOk (c .before .before .before .before .before .before .args .bytes .now) (c .before .before .before .before .before .before .args .i) ≡ true
-kept c = sym (tested (c .before)) ∙ not-false _ (c .if1 .left)
-
-component-requires : tie.Need-component-requires
-component-requires c κs = search needs
-
-cast-x : tie.Need-cast-x
-cast-x c = fits (x c)
-
-component-requires-2 : tie.Need-component-requires-2
-component-requires-2 c κs = search needs
-
-cast-y : tie.Need-cast-y
-cast-y c = fits (y c)
-
-component-requires-3 : tie.Need-component-requires-3
-component-requires-3 c κs = search needs
-
-cast-z : tie.Need-cast-z
-cast-z c = fits (z c)
-
-direction-ok-requires : tie.Need-direction-ok-requires
-direction-ok-requires c κs = search needs
+star-ok-requires : tie.Need-star-ok-requires
+star-ok-requires c κs = search needs
 
 returns : tie.Need-returns
-returns c = sym (star-broken _ _ (sym (tested (c .before)) ∙ not-true _ (c .if1 .taken)))
+returns c = sym (star-broken _ _ (sym (c .before .star-ok .ensures) ∙ not-true _ (c .if1 .taken)))
 
 returns-2 : tie.Need-returns-2
 returns-2 c = sym (star-kept _ _ (kept (c .before)) ∙ rises-first _ _ (c .if2 .taken))
@@ -78,13 +39,7 @@ pub record-ok-spec : {M : Type 1} → statement M
 record-ok-spec =
     tie.close
     (tie.spec
-    component-requires
-    cast-x
-    component-requires-2
-    cast-y
-    component-requires-3
-    cast-z
-    direction-ok-requires
+    star-ok-requires
     returns
     returns-2
     sub-identity
