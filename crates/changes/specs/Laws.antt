@@ -1,5 +1,5 @@
 -- What the list of changes is, in plain terms, for any two valid catalogues: an identity is listed with 1 exactly if some record of the first has it
--- and none of the second does, with 2 the other way round, and with 3 exactly if both have it and some number behind it differs; identities rise
+-- and none of the second does, with 2 the other way round, and with 3 exactly if both have it and x, y, z or the magnitude differs; identities rise
 -- strictly, so that each stands once; and nothing else is listed. Assumes nothing.
 use mathlib.Core.Bool.{Bool, true, false, cond, not}
 use mathlib.Core.Logic.{_⊎_, inl, inr}
@@ -13,16 +13,16 @@ use lib.Dec.{eqb}
 use lib.ListN.{length, getD}
 use Rattle.counting.specs.Contradiction.{contradiction}
 use Rattle.counting.specs.First.{first-is}
-use Rattle.catalogue.specs.Format.{recordsIn, identityOf, componentOf}
+use Rattle.catalogue.specs.Format.{recordsIn, identityOf}
 use Rattle.catalogue.specs.Valid.{Valid}
-use Rattle.changes.specs.Changes.{placeOf, has, fields, differ, kindOf, isListed, listed, changesOf}
+use Rattle.changes.specs.Changes.{placeOf, has, differ, kindOf, isListed, listed, changesOf}
 use Rattle.changes.specs.DifferLaws.{differ-some, differ-any}
 use Rattle.changes.specs.Places.{Rises, valid-rises, place-is, place-none, place-has}
 use Rattle.changes.specs.Kinds.{kind-first, kind-second, kind-both, Way, only-first, only-second, differing, same, neither, way}
 use Rattle.changes.specs.Below.{Passing, passing}
 use Rattle.changes.specs.Encoded.{changes-length}
 use Rattle.changes.specs.Read.{identityAt, kindAt, read-identity, read-kind}
-use Rattle.changes.specs.Fields.{field-component, component-field}
+use Rattle.changes.specs.Fields.{Apart, apart-field, field-apart}
 
 -- ---- the words of these laws
 
@@ -32,13 +32,11 @@ pub record Has (bytes : List ℕ) (x : ℕ) : Type 0 where
   pub inside : place < recordsIn bytes
   pub is : identityOf bytes place ≡ x
 
--- both have it, and a number behind it differs: x, y or z
+-- both have it, and a number behind it differs: x, y or z, or the magnitude
 pub record Moved (first second : List ℕ) (x : ℕ) : Type 0 where
   pub one : Has first x
   pub other : Has second x
-  pub axis : ℕ
-  pub inside : axis < fields
-  pub apart : componentOf first (one .place) axis ≡ componentOf second (other .place) axis → ⊥
+  pub apart : Apart first (one .place) second (other .place)
 
 -- a list of records of eight bytes says this of an identity
 pub record Lists (list : List ℕ) (x kind : ℕ) : Type 0 where
@@ -199,9 +197,7 @@ module _ (first second : List ℕ) where
             record {
               one = has-some first x a;
               other = has-some second x b;
-              axis = o .k;
-              inside = o .inside;
-              apart = λ z. o .apart (component-field first (placeOf first x) second (placeOf second x) (o .k) bytes-first bytes-second z);
+              apart = field-apart first (placeOf first x) second (placeOf second x) bytes-first bytes-second (o .k) (o .inside) (o .apart);
             }
         go k (same a b d e) = absurd (omega arith)
         go k (neither a b e) = absurd (omega arith)
@@ -210,7 +206,8 @@ module _ (first second : List ℕ) where
     moved-three x m =
         let i = the-place r x (m .one) in
         let j = the-place q x (m .other) in
-        let d = differ-any first (m .one .place) second (m .other .place) (m .axis) (m .inside) (λ z. m .apart (field-component first (m .one .place) second (m .other .place) (m .axis) z)) in
+        let o = apart-field first (m .one .place) second (m .other .place) (m .apart) in
+        let d = differ-any first (m .one .place) second (m .other .place) (o .k) (o .inside) (o .apart) in
         let e = (λ k. differ first (i k) second (j k)) ∙ d in
         kind-lists x 3 (has-narrow r x (m .one))
         (kind-both first second x (some-has r x (m .one)) (some-has q x (m .other)) ∙ ap {B = ℕ} (λ (t : Bool). cond t 3 0) e)
