@@ -88,6 +88,10 @@ module _ (bytes : List ℕ) where
       go (yes h) = absurd (first-broken bytes h .breaks (valid-record v (brokenOf bytes) h))
       go (no h) = omega arith
 
+  -- none of a valid catalogue's is broken
+  pub broken-none : Valid bytes → brokenOf bytes ≡ recordsIn bytes
+  broken-none v = omega (arith, valid-kept v, broken-is bytes .most)
+
 -- ---- what the check comes to
 
 -- the three ways that it can go

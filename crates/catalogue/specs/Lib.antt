@@ -13,3 +13,4 @@ pub mod StarsLaws
 pub mod Filled
 pub mod ValidStars
 pub mod Lent
+pub mod Alike
