@@ -13,3 +13,4 @@ pub mod Build
 pub mod BuildLaws
 pub mod Check
 pub mod CheckLaws
+pub mod Alike

@@ -8,3 +8,4 @@ pub mod RefusalSteps
 pub mod Room
 pub mod RoomLaws
 pub mod Example
+pub mod Alike

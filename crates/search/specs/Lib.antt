@@ -4,3 +4,4 @@ pub mod First
 pub mod Refusals
 pub mod Identified
 pub mod Call
+pub mod Alike
