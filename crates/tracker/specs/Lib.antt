@@ -12,3 +12,4 @@ pub mod ReadyLaws
 pub mod NeverLaws
 pub mod RoomLaws
 pub mod BoundLaws
+pub mod Alike
