@@ -95,10 +95,10 @@ fn search(letter: &[u8], directions: &[i32], catalogue: &[u8], tolerance: u64, r
     say::end();
 }
 
-// Whose stars are the three axes, as records 1, 2 and 3; 10^9 is 3b 9a ca 00 in bytes.
+// Whose stars are the three axes, as records 1, 2 and 3; 10^9 is 3b 9a ca 00 in bytes, and the magnitude of each 2,500, 00 00 09 c4.
 fn search_axes(letter: &[u8], directions: &[i32], ranking: &[u16]) {
     let axes =
-        b"\0\0\0\x01\x3b\x9a\xca\0\0\0\0\0\0\0\0\0\0\0\0\x02\0\0\0\0\x3b\x9a\xca\0\0\0\0\0\0\0\0\x03\0\0\0\0\0\0\0\0\x3b\x9a\xca\0";
+        b"\0\0\0\x01\x3b\x9a\xca\0\0\0\0\0\0\0\0\0\0\0\x09\xc4\0\0\0\x02\0\0\0\0\x3b\x9a\xca\0\0\0\0\0\0\0\x09\xc4\0\0\0\x03\0\0\0\0\0\0\0\0\x3b\x9a\xca\0\0\0\x09\xc4";
     search(letter, directions, axes, 0, ranking);
 }
 
@@ -165,7 +165,7 @@ fn mirrors() {
         800000000,
     ];
     let exchanged =
-        b"\0\0\0\x0b\x23\xc3\x46\0\0\0\0\0\x2f\xaf\x08\0\0\0\0\x16\xdc\x3c\xba\0\0\0\0\0\x2f\xaf\x08\0\0\0\0\x21\0\0\0\0\x23\xc3\x46\0\x2f\xaf\x08\0";
+        b"\0\0\0\x0b\x23\xc3\x46\0\0\0\0\0\x2f\xaf\x08\0\0\0\x09\xc4\0\0\0\x16\xdc\x3c\xba\0\0\0\0\0\x2f\xaf\x08\0\0\0\x09\xc4\0\0\0\x21\0\0\0\0\x23\xc3\x46\0\x2f\xaf\x08\0\0\0\x09\xc4";
     search(b"P", &listed, exchanged, 0, &[0u16, 1, 2, 0, 1, 2, 2, 0, 1]);
     let small = [
         1000000000i32,
@@ -179,7 +179,7 @@ fn mirrors() {
         1000,
     ];
     let small_turn =
-        b"\0\0\0\x01\x3b\x9a\xca\0\0\0\0\0\0\0\0\0\0\0\0\x02\x23\xc3\x46\0\x2f\xaf\x08\0\0\0\0\0\0\0\0\x03\0\0\0\0\x3b\x9a\xca\0\xff\xff\xfc\x18";
+        b"\0\0\0\x01\x3b\x9a\xca\0\0\0\0\0\0\0\0\0\0\0\x09\xc4\0\0\0\x02\x23\xc3\x46\0\x2f\xaf\x08\0\0\0\0\0\0\0\x09\xc4\0\0\0\x03\0\0\0\0\x3b\x9a\xca\0\xff\xff\xfc\x18\0\0\x09\xc4";
     search(b"Q", &small, small_turn, 0, &rising);
     let least = [
         1000000000i32,
@@ -193,7 +193,7 @@ fn mirrors() {
         1000,
     ];
     let least_turn =
-        b"\0\0\0\x01\x3b\x9a\xca\0\0\0\0\0\0\0\0\0\0\0\0\x02\0\0\0\0\x3b\x9a\xca\0\0\0\0\0\0\0\0\x03\x23\xc3\x46\0\x2f\xaf\x08\0\xff\xff\xfc\x18";
+        b"\0\0\0\x01\x3b\x9a\xca\0\0\0\0\0\0\0\0\0\0\0\x09\xc4\0\0\0\x02\0\0\0\0\x3b\x9a\xca\0\0\0\0\0\0\0\x09\xc4\0\0\0\x03\x23\xc3\x46\0\x2f\xaf\x08\0\xff\xff\xfc\x18\0\0\x09\xc4";
     search(b"R", &least, least_turn, 0, &rising);
     let less = [
         999999000i32,
@@ -207,7 +207,7 @@ fn mirrors() {
         1000,
     ];
     let third_turn =
-        b"\0\0\0\x01\x3b\x9a\xca\0\0\0\0\0\0\0\0\0\0\0\0\x02\0\0\0\0\x3b\x9a\xca\0\0\0\0\0\0\0\0\x03\x3b\x9a\xca\0\0\0\0\0\xff\xff\xfc\x18";
+        b"\0\0\0\x01\x3b\x9a\xca\0\0\0\0\0\0\0\0\0\0\0\x09\xc4\0\0\0\x02\0\0\0\0\x3b\x9a\xca\0\0\0\0\0\0\0\x09\xc4\0\0\0\x03\x3b\x9a\xca\0\0\0\0\0\xff\xff\xfc\x18\0\0\x09\xc4";
     search(b"S", &less, third_turn, 10000000000000, &rising);
 }
 

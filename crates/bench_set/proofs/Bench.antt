@@ -35,8 +35,8 @@ use Rattle.lens.specs.Stated.{settingsLens}
 use Rattle.camera.specs.Camera.{directionOf}
 use Rattle.camera.specs.Laws.{settings-direction}
 use Rattle.words.specs.Number.{numberAt}
-use Rattle.catalogue.specs.Format.{signedOf, identityOf, componentOf}
-use Rattle.catalogue.specs.Rule.{directionOk, identityRises, recordOk}
+use Rattle.catalogue.specs.Format.{signedOf, identityOf, componentOf, magnitudeOf}
+use Rattle.catalogue.specs.Rule.{directionOk, magnitudeOk, identityRises, recordOk}
 use Rattle.catalogue.specs.Check as catalogue
 use Rattle.catalogue.specs.Stars.{starsTo, starsOf}
 use Rattle.assignment.specs.Tests.{all, some}
@@ -142,7 +142,7 @@ attitudes-hold below = (case-I, (ap sentOf case-I ∙ gimbal.case-I, (case-J, (a
 searches-hold : AllHold (drop 23 table) → AllHold (drop 15 table)
 unfolding table lowest identificationOf padTo refusals.refusalsOf refusals.rowsBeside refusals.demandOk lentOf clash first firstFrom some all
     listOk allWithin
-    catalogue.refusalsOf catalogue.lengthOk catalogue.brokenOf recordOk directionOk identityRises componentOf identityOf numberAt signedOf starsOf starsTo
+    catalogue.refusalsOf catalogue.lengthOk catalogue.brokenOf recordOk directionOk magnitudeOk identityRises componentOf magnitudeOf identityOf numberAt signedOf starsOf starsTo
     firstFit run row assigned standing pairsAndThrees pairs threes agreement agreeing pairDot mirroring mirrored tripleOf tripleAt
 searches-hold below = (only refl, (only refl, (only refl, (only refl, (only refl, (only refl, (only refl, (only refl, below))))))))
 

@@ -75,11 +75,15 @@ full = 59 ∷ 154 ∷ 202 ∷ 0 ∷ []
 abbrev pub empty : List ℕ
 empty = 0 ∷ 0 ∷ 0 ∷ 0 ∷ []
 
+-- 2,500: document 01 gives its stars no magnitude, so all have one that is in range
+abbrev pub magnitude : List ℕ
+magnitude = 0 ∷ 0 ∷ 9 ∷ 196 ∷ []
+
 abbrev pub axes : List ℕ
 axes =
-    (0 ∷ 0 ∷ 0 ∷ 1 ∷ full ++ empty ++ empty)
-    ++ (0 ∷ 0 ∷ 0 ∷ 2 ∷ empty ++ full ++ empty)
-    ++ (0 ∷ 0 ∷ 0 ∷ 3 ∷ empty ++ empty ++ full)
+    (0 ∷ 0 ∷ 0 ∷ 1 ∷ full ++ empty ++ empty ++ magnitude)
+    ++ (0 ∷ 0 ∷ 0 ∷ 2 ∷ empty ++ full ++ empty ++ magnitude)
+    ++ (0 ∷ 0 ∷ 0 ∷ 3 ∷ empty ++ empty ++ full ++ magnitude)
 
 -- ---- T-03: the listing's sky with two stars exchanged, and stars whose triple product is exactly -10^12, or smaller in size
 
@@ -101,30 +105,30 @@ minusThousand = 255 ∷ 255 ∷ 252 ∷ 24 ∷ []
 
 abbrev pub exchanged : List ℕ
 exchanged =
-    (0 ∷ 0 ∷ 0 ∷ 11 ∷ six ++ empty ++ eight)
-    ++ (0 ∷ 0 ∷ 0 ∷ 22 ∷ minusSix ++ empty ++ eight)
-    ++ (0 ∷ 0 ∷ 0 ∷ 33 ∷ empty ++ six ++ eight)
+    (0 ∷ 0 ∷ 0 ∷ 11 ∷ six ++ empty ++ eight ++ magnitude)
+    ++ (0 ∷ 0 ∷ 0 ∷ 22 ∷ minusSix ++ empty ++ eight ++ magnitude)
+    ++ (0 ∷ 0 ∷ 0 ∷ 33 ∷ empty ++ six ++ eight ++ magnitude)
 
 -- thousandths (10^6, 0, 0), (600,000, 800,000, 0), (0, 10^6, -1): -8 x 10^11
 abbrev pub smallTurn : List ℕ
 smallTurn =
-    (0 ∷ 0 ∷ 0 ∷ 1 ∷ full ++ empty ++ empty)
-    ++ (0 ∷ 0 ∷ 0 ∷ 2 ∷ six ++ eight ++ empty)
-    ++ (0 ∷ 0 ∷ 0 ∷ 3 ∷ empty ++ full ++ minusThousand)
+    (0 ∷ 0 ∷ 0 ∷ 1 ∷ full ++ empty ++ empty ++ magnitude)
+    ++ (0 ∷ 0 ∷ 0 ∷ 2 ∷ six ++ eight ++ empty ++ magnitude)
+    ++ (0 ∷ 0 ∷ 0 ∷ 3 ∷ empty ++ full ++ minusThousand ++ magnitude)
 
 -- thousandths (10^6, 0, 0), (0, 10^6, 0), (600,000, 800,000, -1): -10^12
 abbrev pub leastTurn : List ℕ
 leastTurn =
-    (0 ∷ 0 ∷ 0 ∷ 1 ∷ full ++ empty ++ empty)
-    ++ (0 ∷ 0 ∷ 0 ∷ 2 ∷ empty ++ full ++ empty)
-    ++ (0 ∷ 0 ∷ 0 ∷ 3 ∷ six ++ eight ++ minusThousand)
+    (0 ∷ 0 ∷ 0 ∷ 1 ∷ full ++ empty ++ empty ++ magnitude)
+    ++ (0 ∷ 0 ∷ 0 ∷ 2 ∷ empty ++ full ++ empty ++ magnitude)
+    ++ (0 ∷ 0 ∷ 0 ∷ 3 ∷ six ++ eight ++ minusThousand ++ magnitude)
 
 -- the same with (10^6, 0, -1) for the third: -10^12 too
 abbrev pub leastTurn′ : List ℕ
 leastTurn′ =
-    (0 ∷ 0 ∷ 0 ∷ 1 ∷ full ++ empty ++ empty)
-    ++ (0 ∷ 0 ∷ 0 ∷ 2 ∷ empty ++ full ++ empty)
-    ++ (0 ∷ 0 ∷ 0 ∷ 3 ∷ full ++ empty ++ minusThousand)
+    (0 ∷ 0 ∷ 0 ∷ 1 ∷ full ++ empty ++ empty ++ magnitude)
+    ++ (0 ∷ 0 ∷ 0 ∷ 2 ∷ empty ++ full ++ empty ++ magnitude)
+    ++ (0 ∷ 0 ∷ 0 ∷ 3 ∷ full ++ empty ++ minusThousand ++ magnitude)
 
 abbrev pub rising : List ℕ
 rising = 0 ∷ 1 ∷ 2 ∷ []
