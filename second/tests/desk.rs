@@ -111,11 +111,12 @@ fn refusals() {
     assert_eq!(line(&[], u64::MAX, u64::MAX), "refused 15 0\n");
 }
 
-/// A catalogue of these directions, with the identities 1, 2 and so on.
+/// A catalogue of these directions, with the identities 1, 2 and so on and the magnitude 2.5.
 fn catalogue(stars: &[[i32; 3]]) -> Vec<u8> {
     let record = |(i, star): (usize, &[i32; 3])| {
         let identity = (i as u32 + 1).to_be_bytes();
-        [identity, star[0].to_be_bytes(), star[1].to_be_bytes(), star[2].to_be_bytes()].concat()
+        let magnitude = 2_500_i32.to_be_bytes();
+        [identity, star[0].to_be_bytes(), star[1].to_be_bytes(), star[2].to_be_bytes(), magnitude].concat()
     };
     stars.iter().enumerate().flat_map(record).collect()
 }

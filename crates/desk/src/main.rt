@@ -1,5 +1,7 @@
 // The desk: what people on the ground ask of files, one subcommand each. Wrong words get a line on standard error and nothing on standard output, by which
 // the script `mnemathor` tells them from an answer.
+use catalogue::MOST_RECORDS;
+use catalogue::RECORD_SIZE;
 use libc::STDERR_FILENO;
 use libc::STDOUT_FILENO;
 use text::Parsed;
@@ -11,7 +13,7 @@ const SETTINGS_ROOM: usize = 33;
 
 const FRAME_ROOM: usize = 64001;
 
-const CATALOGUE_ROOM: usize = 8193;
+const CATALOGUE_ROOM: usize = RECORD_SIZE * MOST_RECORDS + 1;
 
 // An index of 512 stars has 130,816 records at most.
 const INDEX_ROOM: usize = 1569792;

@@ -1,14 +1,16 @@
 // Reads settings.bin, catalogue.bin and frame.bin of the current folder, and writes the listing on standard output.
+use catalogue::MOST_RECORDS;
+use catalogue::RECORD_SIZE;
 use libc::STDERR_FILENO;
 use libc::STDOUT_FILENO;
 ghost use Rattle.io.specs.Counts.{Counts};
 
-// Each buffer has room for one byte, or one record, more than its file may have, so that a file that is too long is seen to be.
+// Each buffer has room for one byte more than its file may have, so that a file that is too long is seen to be.
 const SETTINGS_ROOM: usize = 33;
 
 const FRAME_ROOM: usize = 64001;
 
-const CATALOGUE_ROOM: usize = 8208;
+const CATALOGUE_ROOM: usize = RECORD_SIZE * MOST_RECORDS + 1;
 
 // Reads a file into the buffer and answers how many bytes it put there. A missing file counts as empty.
 fn read(name: &[u8], buffer: &mut [u8]) -> usize

@@ -4,6 +4,9 @@ mod gimbal;
 mod print;
 mod stream;
 
+// The longest of the catalogues has 520 records.
+const CATALOGUE_ROOM: usize = catalogue::RECORD_SIZE * 520;
+
 // The next call, of some kind.
 fn run(
     kind: u64,
@@ -61,7 +64,7 @@ fn run_all(
 fn run_file(fd: i32) -> u64 {
     let mut bytes = [0u8; 2100000];
     let mut samples = [0u16; 1050000];
-    let mut stars = [0u8; 8320];
+    let mut stars = [0u8; CATALOGUE_ROOM];
     let mut index = [0u8; 1570000];
     let mut room = [0u16; 4200];
     run_all(
