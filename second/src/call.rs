@@ -4,6 +4,7 @@ use crate::answer::{numbers, Numbers};
 use crate::burst::burst_within;
 use crate::chain::{chain_by_index_within, chain_within, Settings};
 use crate::compare::compare;
+use crate::cut::cut;
 use crate::float::{settled, Float};
 use crate::index::Index;
 use crate::lens::Plate;
@@ -30,9 +31,10 @@ pub enum Entry {
     Lens,
     Compare,
     Rival,
+    Cut,
 }
 
-pub const ENTRIES: [Entry; 18] = [
+pub const ENTRIES: [Entry; 19] = [
     Entry::Verdict,
     Entry::List,
     Entry::Direction,
@@ -51,6 +53,7 @@ pub const ENTRIES: [Entry; 18] = [
     Entry::Lens,
     Entry::Compare,
     Entry::Rival,
+    Entry::Cut,
 ];
 
 impl Entry {
@@ -74,6 +77,7 @@ impl Entry {
             Entry::Lens => "lens",
             Entry::Compare => "compare",
             Entry::Rival => "rival",
+            Entry::Cut => "cut",
         }
     }
 
@@ -88,7 +92,7 @@ impl Entry {
 
     /// How many of the 64 numbers the recorded output shows.
     pub fn numbers_shown(self) -> usize {
-        [8, 30, 5, 3, 2, 11, 11, 47, 6, 3, 2, 47, 3, 2, 2, 3, 3, 11][self.index()]
+        [8, 30, 5, 3, 2, 11, 11, 47, 6, 3, 2, 47, 3, 2, 2, 3, 3, 11, 3][self.index()]
     }
 
     /// Whether plain Rust has this call too.
@@ -115,6 +119,7 @@ impl Entry {
             Entry::Turned => &[],
             Entry::Lens => &[19],
             Entry::Compare => &[6, 7, 20],
+            Entry::Cut => &[6, 7, 21],
         }
     }
 
@@ -254,6 +259,8 @@ pub struct Call {
     pub vectors: Buffer<i64>,
     pub floor: i64,
     pub index: Buffer<u8>,
+    pub limit: i32,
+    pub closeness: i64,
     /// The room for an index to be built, for a burst's records, or for a list of changes.
     pub bytes: Buffer<u8>,
     /// The second catalogue of two.
@@ -327,6 +334,8 @@ impl Call {
             vectors: Buffer::default(),
             floor: 0,
             index: Buffer::default(),
+            limit: 0,
+            closeness: 0,
             bytes: Buffer::default(),
             other: Buffer::default(),
             matrix: Buffer::default(),
@@ -356,6 +365,7 @@ impl Call {
                 [&frame[..], &optics, &[signed(self.floor), self.needed, self.tolerance]].concat()
             }
             Entry::Lens => lens.to_vec(),
+            Entry::Cut => vec![signed(self.limit.into()), signed(self.closeness)],
         }
     }
 
@@ -368,7 +378,7 @@ impl Call {
         match self.entry {
             Entry::Verdict | Entry::List | Entry::Reason => self.samples.write(bytes),
             Entry::Direction | Entry::Lens => {}
-            Entry::Catalogue => self.catalogue.write(bytes),
+            Entry::Catalogue | Entry::Cut => self.catalogue.write(bytes),
             Entry::Ranking => {
                 self.directions.write(bytes);
                 self.catalogue.write(bytes);
@@ -532,6 +542,7 @@ impl Call {
                 &lent.ranking,
                 effort,
             )?),
+            Entry::Cut => numbers(&cut(&mut lent.catalogue, self.limit, self.closeness)),
         };
         Ok(Outcome { out, lent })
     }
@@ -636,6 +647,7 @@ impl Call {
                 self.tolerance,
                 &lent.ranking,
             )),
+            Entry::Cut => numbers(&plain::cut(&mut lent.catalogue, self.limit, self.closeness)),
             Entry::Reason => panic!("plain Rust has no {}", self.entry.name()),
         }
     }
@@ -651,6 +663,11 @@ impl Call {
     /// Whether the call is lent a room of bytes to write in.
     pub fn writes_bytes(&self) -> bool {
         matches!(self.entry, Entry::Index | Entry::Burst | Entry::Compare)
+    }
+
+    /// Whether the call writes over the catalogue.
+    pub fn writes_catalogue(&self) -> bool {
+        self.entry == Entry::Cut
     }
 
     /// The floats that the call was lent room for, as they are after it.

@@ -85,6 +85,7 @@ pub fn damage(call: &mut Call, reason: u8, random: &Random) {
             let full = list_length(&call.catalogue.values(), &call.other.values());
             shorten(&mut call.bytes, full, compare::RECORD_BYTES, random);
         }
+        21 => keep_nothing(call, random),
         23 => damage_matrix(call, random),
         _ => {}
     }
@@ -94,6 +95,14 @@ pub fn damage(call: &mut Call, reason: u8, random: &Random) {
 fn shorten(room: &mut Buffer<u8>, full: usize, record: usize, random: &Random) {
     let short = [full.saturating_sub(1), full.saturating_sub(record), full / 2, 0];
     *room = room.resized(random.pick(&short).min(room.len));
+}
+
+/// No star within the limit, or all of them close to each other.
+fn keep_nothing(call: &mut Call, random: &Random) {
+    let (limit, closeness) = (call.limit, call.closeness);
+    let nothing =
+        [(i32::MIN, closeness), (-2_001, closeness), (limit, i64::MIN), (limit.max(12_000), i64::MIN)];
+    (call.limit, call.closeness) = random.pick(&nothing);
 }
 
 fn damage_matrix(call: &mut Call, random: &Random) {

@@ -5,7 +5,7 @@ use crate::catalogue::RECORD_BYTES;
 use crate::chain::{chain, CHAIN_ROOM};
 use crate::compare::{changes, Change};
 use crate::listing::{refused, seen_directions, star_lines};
-use crate::{files, frame, index, search};
+use crate::{cut, files, frame, index, search};
 
 /// The line that says why the pixel is a star or none, for the contents of settings.bin and frame.bin.
 pub fn why(settings: &[u8], frame: &[u8], row: u64, column: u64) -> String {
@@ -89,4 +89,16 @@ fn rival_lines(settings: &[u8], catalogue: &[u8], frame: &[u8]) -> Result<String
         Rivalry::Alone => "alone\n".to_string(),
         Rivalry::Rival(assignment) => star_lines(&list, &assignment, catalogue),
     })
+}
+
+/// The line that tells how many stars a cut keeps, and the flight catalogue; none where it is refused.
+pub fn cut(catalogue: &[u8], limit: i32, closeness: i64) -> (String, Option<Vec<u8>>) {
+    let mut bytes = catalogue.to_vec();
+    match cut::cut(&mut bytes, limit, closeness) {
+        Ok(kept) => {
+            bytes.truncate(RECORD_BYTES * kept);
+            (format!("kept {kept} of {}\n", catalogue.len() / RECORD_BYTES), Some(bytes))
+        }
+        Err(refusal) => (refused(refusal), None),
+    }
 }

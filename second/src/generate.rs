@@ -9,10 +9,12 @@ use crate::sky::{self, Turn};
 use crate::{burst, catalogue, direction, dot, frame, index, ranking};
 
 mod compare;
+mod cut;
 mod gimbal;
 mod lens;
 
 pub use compare::*;
+pub use cut::*;
 pub use gimbal::*;
 pub use lens::*;
 
@@ -477,6 +479,7 @@ pub fn any_call(random: &Random, entry: Entry) -> Call {
         Entry::Turned => any_turned(random),
         Entry::Lens => any_lens(random),
         Entry::Compare => any_compare(random),
+        Entry::Cut => any_cut(random),
     };
     if random.chance(35) && !entry.faults().is_empty() {
         for _ in 0..random.pick(&[1, 1, 1, 2, 3]) {

@@ -11,6 +11,7 @@ pub mod burst;
 pub mod catalogue;
 pub mod chain;
 pub mod compare;
+pub mod cut;
 pub mod desk;
 pub mod direction;
 pub mod files;

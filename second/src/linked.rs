@@ -191,6 +191,14 @@ extern "C" {
         out_len: usize,
     );
     fn mnemathor_lens(kind: u32, first: f64, second: f64, out: *mut i64, out_len: usize);
+    fn mnemathor_cut(
+        catalogue: *mut u8,
+        catalogue_len: usize,
+        limit: i32,
+        closeness: i64,
+        out: *mut i64,
+        out_len: usize,
+    );
     fn mnemathor_compare(
         first: *const u8,
         first_len: usize,
@@ -351,6 +359,7 @@ pub fn run(call: &Call, lent: &mut Lent, out: &mut [i64]) {
                 mnemathor_turned(rows.0, rows.1, target.0, target.1, turned.0, turned.1, out.0, out.1)
             }
             Entry::Lens => mnemathor_lens(kind, first, second, out.0, out.1),
+            Entry::Cut => mnemathor_cut(catalogue.0, catalogue.1, call.limit, call.closeness, out.0, out.1),
             Entry::Compare => {
                 mnemathor_compare(catalogue.0, catalogue.1, other.0, other.1, bytes.0, bytes.1, out.0, out.1)
             }

@@ -12,6 +12,7 @@ use crate::search::Effort;
 use crate::sky::{self, record, record_of};
 
 mod compare;
+mod cut;
 mod gimbal;
 mod lens;
 mod rival;
@@ -56,6 +57,7 @@ pub fn calls() -> Vec<Call> {
             Entry::Lens => lens::plates(&random, &mut calls),
             Entry::Compare => compare::pairs(&random, &mut calls),
             Entry::Rival => rival::rivals(&random, &mut calls),
+            Entry::Cut => cut::cuts(&random, &mut calls),
         }
     }
     calls
@@ -99,6 +101,10 @@ fn line(case: &Case) -> String {
     if case.call.writes_bytes() {
         numbers.push(checksum(&case.call.bytes.values()));
         numbers.push(checksum(&after.bytes));
+    }
+    if case.call.writes_catalogue() {
+        numbers.push(checksum(&case.call.catalogue.values()));
+        numbers.push(checksum(&after.catalogue));
     }
     let floats = case.call.floats_written(after).iter().map(Float::to_string);
     numbers.iter().map(i64::to_string).chain(floats).collect::<Vec<_>>().join(" ")

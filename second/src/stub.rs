@@ -349,3 +349,16 @@ unsafe extern "C" fn mnemathor_rival(
     let ranking = from_raw_parts(ranking, ranking_len);
     answer(out, out_len, || plain::rival(directions, catalogue, needed, tolerance, ranking));
 }
+
+#[no_mangle]
+unsafe extern "C" fn mnemathor_cut(
+    catalogue: *mut u8,
+    catalogue_len: usize,
+    limit: i32,
+    closeness: i64,
+    out: *mut i64,
+    out_len: usize,
+) {
+    let catalogue = from_raw_parts_mut(catalogue, catalogue_len);
+    answer(out, out_len, || plain::cut(catalogue, limit, closeness));
+}

@@ -76,7 +76,7 @@ impl Reader<'_> {
         match entry {
             Entry::Verdict | Entry::List | Entry::Reason => assert_eq!(self.samples(), lent.samples),
             Entry::Direction | Entry::Lens => {}
-            Entry::Catalogue => assert_eq!(self.catalogue(), lent.catalogue),
+            Entry::Catalogue | Entry::Cut => assert_eq!(self.catalogue(), lent.catalogue),
             Entry::Ranking => {
                 assert_eq!(self.directions(), lent.directions);
                 assert_eq!(self.catalogue(), lent.catalogue);
@@ -134,7 +134,7 @@ impl Reader<'_> {
 }
 
 fn scalar_count(entry: Entry) -> usize {
-    [5, 3, 7, 0, 1, 2, 0, 10, 5, 1, 2, 11, 10, 0, 0, 3, 0, 2][entry.index()]
+    [5, 3, 7, 0, 1, 2, 0, 10, 5, 1, 2, 11, 10, 0, 0, 3, 0, 2, 2][entry.index()]
 }
 
 #[test]

@@ -23,7 +23,7 @@ const DIFFERENCES_SHOWN: u64 = 5;
 /// No call of the library may take more stack than this.
 const STACK: usize = 64 * 1024;
 /// Calls of each entry point in a round: more of the quick ones.
-const CALLS_A_ROUND: [usize; ENTRIES.len()] = [4, 2, 8, 4, 2, 4, 8, 1, 4, 2, 2, 1, 1, 8, 16, 16, 4, 3];
+const CALLS_A_ROUND: [usize; ENTRIES.len()] = [4, 2, 8, 4, 2, 4, 8, 1, 4, 2, 2, 1, 1, 8, 16, 16, 4, 3, 4];
 
 #[derive(Default, Clone, Copy)]
 struct Count {
