@@ -19,7 +19,7 @@ use Rattle.changes.specs.Changes.{placeOf, has, differ, kindOf, isListed
 use Rattle.changes.specs.DifferLaws.{differ-some, differ-any}
 use Rattle.changes.specs.Places.{Rises, valid-rises, place-is, place-none, place-has}
 use Rattle.changes.specs.Kinds.{kind-first, kind-second, kind-both, Way, only-first, only-second, differing, same, neither, way}
-use Rattle.changes.specs.Below.{Passing, passing}
+use Rattle.sorting.specs.Below.{Passing, passing}
 use Rattle.changes.specs.Encoded.{changes-length}
 use Rattle.changes.specs.Read.{identityAt, kindAt, read-identity, read-kind}
 use Rattle.changes.specs.Fields.{Apart, apart-field, field-apart}

@@ -3,7 +3,6 @@ pub mod Changes
 pub mod DifferLaws
 pub mod Places
 pub mod Kinds
-pub mod Below
 pub mod Encoded
 pub mod Read
 pub mod Fields

@@ -13,7 +13,7 @@ use Rattle.catalogue.specs.Check as catalogue
 use Rattle.compare.specs.declared.Compared.{Compared}
 use Rattle.compare.specs.declared.Compared.the-variants.{Refused, Records}
 use Rattle.changes.specs.Changes.{listed, changesOf}
-use Rattle.compare.specs.Written.{atFront}
+use Rattle.words.specs.Front.{atFront}
 
 -- a room of so many bytes is shorter than the list
 abbrev pub roomShort : List ℕ → List ℕ → ℕ → Bool

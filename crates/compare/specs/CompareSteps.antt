@@ -19,7 +19,7 @@ use Rattle.catalogue.specs.Valid.{Valid}
 use Rattle.compare.specs.declared.Compared.the-variants.{Refused, Records}
 use Rattle.changes.specs.Changes.{listed, changesOf}
 use Rattle.changes.specs.Encoded.{changes-length}
-use Rattle.compare.specs.Written.{atFront}
+use Rattle.words.specs.Front.{atFront}
 use Rattle.compare.specs.Compare.{roomShort, cataloguesRefused, refusalsOf, comparedOf, roomAfter, answerOf, answerFor}
 
 module _ (first second : List ℕ) where

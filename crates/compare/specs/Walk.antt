@@ -13,7 +13,7 @@ use Rattle.compare.specs.declared.step.Step.{Step}
 use Rattle.changes.specs.Changes.{kindOf, isListed, listedBelow, listed}
 use Rattle.changes.specs.Places.{Rises}
 use Rattle.changes.specs.Kinds.{kind-none}
-use Rattle.changes.specs.Below.{below-next, below-skip, below-more}
+use Rattle.sorting.specs.Below.{below-next, below-skip, below-more}
 use Rattle.compare.specs.Step.{stepOf}
 use Rattle.compare.specs.Cut.{Cut, cut-start, next-behind, cut-none}
 use Rattle.compare.specs.StepLaws.{Stepped, stepped}

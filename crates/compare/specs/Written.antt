@@ -6,11 +6,12 @@ use Prim.Native.Nat.{ℕ, _+_, _*_, _≤_, _<_}
 use native.Mathlib.Omega.{arith}
 use borrow.Author.Tests.{eq-eqb, ne-eqb}
 use lib.Dec.{eqb}
-use lib.ListN.{length, drop, length-append, length-drop}
-use lib.Seq.{sets, sets-eq, take-at, drop-drop, drop-append-add}
+use lib.ListN.{length, length-append}
+use lib.Seq.{sets}
 use Rattle.sorting.specs.Order.{pick}
 use Rattle.words.specs.Bytes.{bytesOf}
 use Rattle.words.specs.BytesLaws.{bytes-join, put-join}
+use Rattle.words.specs.Front.{atFront, front-more}
 use Rattle.catalogue.specs.Format.{recordsIn}
 use Rattle.compare.specs.declared.step.Step.{Step}
 use Rattle.changes.specs.Changes.{kindOf, listed, recordOf, encoded, changesOf}
@@ -45,20 +46,6 @@ told-bytes kind s e = by (not (eqb (s .kind) 0))
     by : (t : Bool) → pick t (recordOf (s .identity) (s .kind)) [] ≡ encoded kind (pick t (s .identity ∷ []) [])
     by true = ap (recordOf (s .identity)) e ∙ sym (append-nil (recordOf (s .identity) (kind (s .identity))))
     by false = refl
-
--- bytes at the front of a room, and the rest as it was
-abbrev pub atFront : List ℕ → List ℕ → List ℕ
-atFront bytes room = bytes ++ drop (length bytes) room
-
--- more bytes behind them
-front-more : (bytes more room : List ℕ) → length bytes + length more ≤ length room → sets (atFront bytes room) (length bytes) more ≡ atFront (bytes ++ more) room
-front-more bytes more room h =
-    let n = length bytes in
-    let k = length more in
-    let rest = drop n room in
-    let e : n + k ≡ length (bytes ++ more) = sym (length-append bytes more) in
-    sets-eq more (bytes ++ rest) n (omega (arith, length-append bytes rest, length-drop n room))
-    ∙ (λ i. take-at bytes rest n refl i ++ more ++ (drop-append-add bytes rest k ∙ drop-drop k n room ∙ ap (λ (m : ℕ). drop m room) e) i)
 
 -- ---- the walk that writes
 

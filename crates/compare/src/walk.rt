@@ -7,11 +7,12 @@ ghost use mathlib.Core.Path.{_≡_};
 ghost use Prim.Native.Nat.{_+_, _*_, _≤_};
 ghost use lib.ListN.{length};
 ghost use lib.Seq.{sets};
+ghost use Rattle.words.specs.Front.{atFront};
 ghost use Rattle.catalogue.specs.Format.{recordsIn};
 ghost use Rattle.catalogue.specs.Valid.{Valid};
 ghost use Rattle.changes.specs.Changes.{listed, changesOf};
 ghost use Rattle.compare.specs.Walk.{told};
-ghost use Rattle.compare.specs.Written.{toldBytes, atFront};
+ghost use Rattle.compare.specs.Written.{toldBytes};
 
 // How many records both catalogues have.
 fn most_steps(first: &[u8], second: &[u8]) -> usize

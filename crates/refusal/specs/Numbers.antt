@@ -62,6 +62,9 @@ lens = 19
 abbrev pub changesRoom : ℕ
 changesRoom = 20
 
+abbrev pub nothingKept : ℕ
+nothingKept = 21
+
 abbrev pub entry : ℕ
 entry = 23
 
@@ -70,4 +73,4 @@ abbrev pub inOrder : List ℕ
 inOrder =
     size ∷ samples ∷ threshold ∷ sample ∷ settings ∷ catalogue ∷ recordRule ∷ directions ∷
     demand ∷ room ∷ ranking ∷ few ∷ noFit ∷ close ∷ pixel ∷ indexRoom ∷
-    index ∷ recordsRoom ∷ lens ∷ changesRoom ∷ entry ∷ []
+    index ∷ recordsRoom ∷ lens ∷ changesRoom ∷ nothingKept ∷ entry ∷ []

@@ -45,11 +45,13 @@ pub const RECORDS_ROOM: u32 = 18;
 pub const LENS: u32 = 19;
 // The room lent for the list of changes is shorter than the list.
 pub const CHANGES_ROOM: u32 = 20;
+// Of the catalogue that is to be cut nothing would be kept.
+pub const NOTHING_KEPT: u32 = 21;
 // A matrix entry handed in is beyond 8 * 10^9.
 pub const ENTRY: u32 = 23;
 
 // All of them in the table's order, each the number that specs/Numbers has under its name.
-pub fn numbers_in_order() -> [u32; 21]
+pub fn numbers_in_order() -> [u32; 22]
     ensures { λ r. ⌜ r ≡ inOrder ⌝ }
 {
     [
@@ -73,6 +75,7 @@ pub fn numbers_in_order() -> [u32; 21]
         RECORDS_ROOM,
         LENS,
         CHANGES_ROOM,
+        NOTHING_KEPT,
         ENTRY,
     ]
 }

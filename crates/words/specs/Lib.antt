@@ -3,3 +3,4 @@ pub mod Number
 pub mod NumberLaws
 pub mod Bytes
 pub mod BytesLaws
+pub mod Front

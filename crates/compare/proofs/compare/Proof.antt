@@ -10,7 +10,7 @@ use Rattle.refusal.specs.Table.{lowest, answered}
 use Rattle.compare.specs.declared.Compared.{Compared}
 use Rattle.compare.specs.declared.Compared.the-variants.{Refused, Records}
 use Rattle.changes.specs.Changes.{listed, changesOf}
-use Rattle.compare.specs.Written.{atFront}
+use Rattle.words.specs.Front.{atFront}
 use Rattle.compare.specs.Compare.{cataloguesRefused, refusalsOf, comparedOf, roomAfter, answerOf, answerFor}
 use Rattle.compare.specs.CompareSteps.{both-valid, compared, answers, refused, too-short, long-enough, room-after}
 use borrow.Author.Needs.{needs}
