@@ -9,7 +9,9 @@ use native.Mathlib.Omega.{arith}
 use lib.ListN.{length, getD, length-append, List·getD-append}
 use lib.Seq.{getD-at}
 use Rattle.counting.specs.Contradiction.{contradiction}
+use Rattle.counting.specs.Number.{one, number}
 use Rattle.sorting.specs.Order.{pick, put, ordered}
+use Rattle.sorting.specs.Laws.{put-length}
 
 module _ (test : ℕ → Bool) where
   -- where no key tells numbers apart, one that is put stands last
@@ -49,6 +51,24 @@ module _ (test : ℕ → Bool) where
       go : Dec (b ≡ suc n) → (b ≤ n → length (ordered test (λ _. 0) b) ≤ length (ordered test (λ _. 0) n)) → length (ordered test (λ _. 0) b) ≤ length (ordered test (λ _. 0) (suc n))
       go (yes e) g = rw e (omega arith)
       go (no d) g = omega (arith, g (omega arith), ap length (below-next n), length-append (ordered test (λ _. 0) n) (pick (test n) (n ∷ []) []))
+
+  -- as many as pass
+  pub below-count : (n : ℕ) → length (ordered test (λ _. 0) n) ≡ number n test
+  unfolding ordered number
+  below-count zero = refl
+  below-count (suc n) = go (test n) (below-count n)
+    where
+      go : (t : Bool) → length (ordered test (λ _. 0) n) ≡ number n test → length (pick t (put (λ _. 0) n (ordered test (λ _. 0) n)) (ordered test (λ _. 0) n)) ≡ number n test + one t
+      go true h = omega (arith, put-length (λ _. 0) n (ordered test (λ _. 0) n))
+      go false h = omega arith
+
+  -- the numbers below n alone decide
+  pub below-same : (other : ℕ → Bool) (n : ℕ) → ((k : ℕ) → k < n → test k ≡ other k) → ordered test (λ _. 0) n ≡ ordered other (λ _. 0) n
+  unfolding ordered
+  below-same other zero h = refl
+  below-same other (suc n) h =
+      let e = below-same other n (λ k l. h k (omega arith)) in
+      λ i. pick (h n (omega arith) i) (put (λ _. 0) n (e i)) (e i)
 
 -- ---- what stands in it
 

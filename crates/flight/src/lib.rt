@@ -1,0 +1,1 @@
+// The flight catalogue that a catalogue is cut to: theory without code.
