@@ -29,11 +29,11 @@ pub record Stays (bytes : List ℕ) (limit closeness : ℤ) (i : ℕ) : Type 0 w
 
 -- ---- tests
 
-is-true : (t : Bool) → T t → t ≡ true
+pub is-true : (t : Bool) → T t → t ≡ true
 is-true true h = refl
 is-true false h = absurd h
 
-at-most : {a b : ℤ} → leZ a b ≡ true → a ≤ℤ b
+pub at-most : {a b : ℤ} → leZ a b ≡ true → a ≤ℤ b
 at-most e = record { le = subst T (sym e) tt }
 
 both : (a b : Bool) → a && b ≡ true → (a ≡ true) × (b ≡ true)
@@ -105,9 +105,12 @@ module _ (bytes : List ℕ) (limit closeness : ℤ) (i : ℕ) where
       let p = both (isBright bytes limit i) (not (isCrowded bytes limit closeness i)) e in
       record { inside = h; bright = is-bright bytes limit i (p .0); alone = crowded-none (not-true _ (p .1)) }
 
-  pub stays-kept : Stays bytes limit closeness i → isKept bytes limit closeness i ≡ true
+  pub alone-kept : isBright bytes limit i ≡ true → isCrowded bytes limit closeness i ≡ false → isKept bytes limit closeness i ≡ true
   unfolding isKept
-  stays-kept s = rw (bright-is bytes limit i (s .bright), none-crowded (s .alone))
+  alone-kept b e = rw (b, e)
+
+  pub stays-kept : Stays bytes limit closeness i → isKept bytes limit closeness i ≡ true
+  stays-kept s = alone-kept (bright-is bytes limit i (s .bright)) (none-crowded (s .alone))
 
   -- the two reasons to go
   pub faint-goes : isBright bytes limit i ≡ false → isKept bytes limit closeness i ≡ false

@@ -1,0 +1,2 @@
+// x
+mod judge;
