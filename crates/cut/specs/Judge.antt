@@ -17,7 +17,8 @@ use Rattle.catalogue.specs.ValidStars.{valid-length, valid-within}
 use Rattle.flight.specs.Flight.{isBright, productOf, isKept}
 use Rattle.flight.specs.Kept.{Crowds, is-bright, bright-is, at-most, is-true, some-crowded, none-crowded, faint-goes, crowded-goes, alone-kept}
 use Rattle.flight.specs.Pairs.{pair-product}
-use Rattle.cut.specs.Marks.{Meets, Mark, faint, crowded, free, Judged}
+use Rattle.cut.specs.Marks.{faintMark, Meets, Mark, faint, crowded, free, Judged, AllLooked}
+use Rattle.cut.specs.MarksLaws.{judged-start}
 
 -- the marks of all records are those that the rule asks for
 pub record Settled (bytes : List ℕ) (limit closeness : ℤ) (marks : List ℕ) : Type 0 where
@@ -57,6 +58,14 @@ module _ (bytes : List ℕ) (v : Valid bytes) where
     mark-kept k m h (free b f e) =
         eq-eqb m 0 e ∙ sym (alone-kept bytes limit closeness k b (none-crowded bytes limit closeness k (λ j c. f j (c .inside) (crowds-meets k j h c))))
 
-    pub judged-settled : (marks : List ℕ) (n : ℕ) → n ≡ recordsIn bytes → Judged (isBright bytes limit) (starsOf bytes) closeness n marks → Settled bytes limit closeness marks
+    judged-settled : (marks : List ℕ) (n : ℕ) → n ≡ recordsIn bytes → Judged (isBright bytes limit) (starsOf bytes) closeness n marks → Settled bytes limit closeness marks
     judged-settled marks n e J =
         record { at = λ k h. mark-kept k (getD marks k 0) h (subst (λ (u : ℕ). Mark (isBright bytes limit) (starsOf bytes) closeness k u (getD marks k 0)) e (J .before k (omega arith))) }
+
+    -- what is left when every pair was looked at, from the marks by the magnitudes alone
+    pub all-settled : (marks after : List ℕ)
+        → ((k : ℕ) → k < recordsIn bytes → getD marks k 0 ≡ faintMark (isBright bytes limit k))
+        → AllLooked (starsOf bytes) closeness marks after
+        → Settled bytes limit closeness after
+    all-settled marks after f g =
+        judged-settled after (triples (starsOf bytes)) star-count (g (isBright bytes limit) (judged-start marks (λ k h. f k (omega (arith, star-count)))))

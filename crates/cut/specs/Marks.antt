@@ -42,3 +42,7 @@ pub record Row (bright : ℕ → Bool) (stars : List ℤ) (closeness : ℤ) (a b
   pub passed : (k : ℕ) → k < b → Mark bright stars closeness k (a + 1) (getD marks k 0)
   pub left : (k : ℕ) → k < a → b ≤ k → Mark bright stars closeness k a (getD marks k 0)
   pub behind : (k : ℕ) → k < triples stars → a < k → Mark bright stars closeness k 0 (getD marks k 0)
+
+-- every pair of stars was looked at, whichever stars are within the limit
+abbrev pub AllLooked : List ℤ → ℤ → List ℕ → List ℕ → Type 0
+AllLooked stars closeness marks after = (bright : ℕ → Bool) → Judged bright stars closeness 0 marks → Judged bright stars closeness (triples stars) after

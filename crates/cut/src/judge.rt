@@ -8,7 +8,7 @@ ghost use Rattle.vectors.specs.Triples.{triples, Listed, pairDot};
 ghost use Rattle.catalogue.specs.Format.{recordsIn};
 ghost use Rattle.catalogue.specs.Valid.{Valid};
 ghost use Rattle.flight.specs.Flight.{isBright};
-ghost use Rattle.cut.specs.Marks.{faintMark, meetsBy, Judged};
+ghost use Rattle.cut.specs.Marks.{faintMark, meetsBy, Judged, AllLooked};
 ghost use Rattle.cut.specs.Judge.{Settled};
 
 // The marks: the star is kept as far as is known, another star is close to it, or it is fainter than the limit.
@@ -79,7 +79,7 @@ fn crowd(stars: &[i32], closeness: i64, a: usize, marks: &mut [u8])
 fn crowd_all(stars: &[i32], closeness: i64, marks: &mut [u8])
     requires { ⌜ Listed 512 (now stars) ⌝ }
     requires { ⌜ triples (now stars) ≤ length (now marks) ⌝ }
-    ensures { λ r. ⌜ ((bright : ℕ → Bool) → Judged bright (now (stars .entry)) closeness 0 (now (marks .entry)) → Judged bright (now (stars .entry)) closeness (triples (now (stars .entry))) (now (marks .exit))) ⌝ }
+    ensures { λ r. ⌜ AllLooked (now (stars .entry)) closeness (now (marks .entry)) (now (marks .exit)) ⌝ }
 {
     let total = stars.len() / 3;
     let mut a: usize = 0;
