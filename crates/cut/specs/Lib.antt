@@ -2,3 +2,4 @@
 pub mod Marks
 pub mod MarksLaws
 pub mod Judge
+pub mod Shifted

@@ -1,2 +1,3 @@
 // x
 mod judge;
+mod shift;

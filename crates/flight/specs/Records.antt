@@ -1,6 +1,6 @@
 -- The bytes of records one after the other: how many there are, and which byte stands where. Assumes nothing.
 use mathlib.Core.Path.{_≡_, refl, ap, _∙_}
-use mathlib.Core.List.{List, [], _∷_, _++_, append-assoc, append-nil}
+use mathlib.Core.List.{List, [], _∷_, _++_, append-assoc}
 use Prim.Native.Nat.{ℕ, zero, suc, _+_, _*_, _/_, _≤_, _<_}
 use native.Mathlib.Nat.{not-suc-le-zero}
 use native.Mathlib.Omega.{arith}
@@ -26,10 +26,6 @@ module _ (bytes : List ℕ) where
   unfolding recordsAt
   records-append [] ys = refl
   records-append (x ∷ xs) ys = rw (records-append xs ys, append-assoc)
-
-  pub records-one : (i : ℕ) → recordsAt bytes (i ∷ []) ≡ recordAt bytes i
-  unfolding recordsAt
-  records-one i = append-nil (recordAt bytes i)
 
   tail : (x : ℕ) (xs : List ℕ) → Inside bytes (x ∷ xs) → Inside bytes xs
   tail x xs s = record { at = λ p h. s .at (suc p) (omega arith) }
