@@ -69,3 +69,8 @@ module _ (bytes : List ℕ) (v : Valid bytes) where
         → Settled bytes limit closeness after
     all-settled marks after f g =
         judged-settled after (triples (starsOf bytes)) star-count (g (isBright bytes limit) (judged-start marks (λ k h. f k (omega (arith, star-count)))))
+
+-- the same of equal numbers
+pub settled-as : {bytes : List ℕ} {limit bound closeness near : ℤ} {marks : List ℕ} → limit ≡ bound → closeness ≡ near → Settled bytes limit closeness marks → Settled bytes bound near marks
+settled-as {bytes} {limit} {bound} {closeness} {near} {marks} e d s =
+    subst (λ (v : ℤ). Settled bytes v near marks) e (subst (λ (v : ℤ). Settled bytes limit v marks) d s)

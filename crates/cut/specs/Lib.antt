@@ -3,3 +3,5 @@ pub mod Marks
 pub mod MarksLaws
 pub mod Judge
 pub mod Shifted
+pub mod Cut
+pub mod CutSteps

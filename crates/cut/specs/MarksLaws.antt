@@ -108,7 +108,7 @@ module _ {bright : ℕ → Bool} {stars : List ℤ} {closeness : ℤ} where
         let w = bright-other (R .left b h (omega arith)) (eqb-false mark 2 (not-true _ (p .0))) in
         let one : Meets bright stars closeness a b = record { other = apart; within = w; near = p .1 } in
         let other : Meets bright stars closeness b a =
-            record { other = λ d. apart (sym d); within = R .within; near = ap (leZ closeness) (pair-comm stars b a) ∙ p .1 } in
+        record { other = λ d. apart (sym d); within = R .within; near = ap (leZ closeness) (pair-comm stars b a) ∙ p .1 } in
         record {
           within = R .within;
           itself = crowded (R .within) b (omega arith) one refl;

@@ -13,7 +13,9 @@ ghost use Rattle.cut.specs.Judge.{Settled};
 
 // The marks: the star is kept as far as is known, another star is close to it, or it is fainter than the limit.
 pub(crate) const KEPT: u8 = 0;
+
 const CROWDED: u8 = 1;
+
 const FAINT: u8 = 2;
 
 // The mark of record i by its magnitude alone.

@@ -100,9 +100,9 @@ returns-2 c =
     let z = toZ-ofZ w64 (x .closeness) (s .fits .closeness) in
     let e : l .b ≡ x .a = omega arith in
     λ bright J.
-        let K = subst (λ (v : ℤ). Judged bright (x .stars .now) v (x .a) (x .marks .now)) (sym z) J in
-        let R = subst (λ (n : ℕ). Row bright (x .stars .now) (toZ w64 (ofZ w64 (x .closeness))) (x .a) n (l .own) (l .marks)) e (l .inv .2 bright K) in
-        subst (λ (v : ℤ). Judged bright (x .stars .now) v (x .a + 1) (set (l .marks) (x .a) (l .own))) z (row-done (omega arith) R)
+    let K = subst (λ (v : ℤ). Judged bright (x .stars .now) v (x .a) (x .marks .now)) (sym z) J in
+    let R = subst (λ (n : ℕ). Row bright (x .stars .now) (toZ w64 (ofZ w64 (x .closeness))) (x .a) n (l .own) (l .marks)) e (l .inv .2 bright K) in
+    subst (λ (v : ℤ). Judged bright (x .stars .now) v (x .a + 1) (set (l .marks) (x .a) (l .own))) z (row-done (omega arith) R)
 
 pub crowd-spec : {M : Type 1} → statement M
 crowd-spec =

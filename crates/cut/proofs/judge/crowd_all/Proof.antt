@@ -56,9 +56,9 @@ returns c =
     let z = toZ-ofZ w64 (x .closeness) (s .fits .closeness) in
     let e : l .a ≡ triples (x .stars .now) = omega arith in
     λ bright J.
-        let K = subst (λ (v : ℤ). Judged bright (x .stars .now) v 0 (x .marks .now)) (sym z) J in
-        let D = subst (λ (n : ℕ). Judged bright (x .stars .now) (toZ w64 (ofZ w64 (x .closeness))) n (l .marks)) e (l .inv .2 bright K) in
-        subst (λ (v : ℤ). Judged bright (x .stars .now) v (triples (x .stars .now)) (l .marks)) z D
+    let K = subst (λ (v : ℤ). Judged bright (x .stars .now) v 0 (x .marks .now)) (sym z) J in
+    let D = subst (λ (n : ℕ). Judged bright (x .stars .now) (toZ w64 (ofZ w64 (x .closeness))) n (l .marks)) e (l .inv .2 bright K) in
+    subst (λ (v : ℤ). Judged bright (x .stars .now) v (triples (x .stars .now)) (l .marks)) z D
 
 pub crowd-all-spec : {M : Type 1} → statement M
 crowd-all-spec =

@@ -56,7 +56,7 @@ crowd-all-requires c κs =
     let s = start r in
     let e = lent r in
     let k : triples (take (3 * r .records .result) (r .before .stars .result)) ≤ length (r .before .before .magnitudes .result) =
-        omega (arith, ap length e, star-count (s .args .bytes .now) (s .pre), s .pre .size .most) in
+    omega (arith, ap length e, star-count (s .args .bytes .now) (s .pre), s .pre .size .most) in
     (subst (Listed 512) (sym e) (valid-listed (s .args .bytes .now) (s .pre)), k)
 
 returns : tie.Need-returns
