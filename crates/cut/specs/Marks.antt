@@ -14,9 +14,9 @@ use Rattle.vectors.specs.Triples.{triples, pairDot}
 abbrev pub faintMark : Bool → ℕ
 faintMark bright = cond bright 0 2
 
--- star b, which has this mark, is not faint and is close to star a
-unfoldable pub meetsBy : List ℤ → ℤ → ℕ → ℕ → ℕ → Bool
-meetsBy stars closeness a b mark = not (eqb mark 2) && leZ closeness (pairDot stars a b)
+-- a star with this mark is not faint, and its dot product with another is at least the closeness
+unfoldable pub meetsBy : ℤ → ℤ → ℕ → Bool
+meetsBy closeness product mark = not (eqb mark 2) && leZ closeness product
 
 -- star j is another one within the limit, and close to star k
 pub record Meets (bright : ℕ → Bool) (stars : List ℤ) (closeness : ℤ) (k j : ℕ) : Type 0 where

@@ -101,7 +101,7 @@ module _ {bright : ℕ → Bool} {stars : List ℤ} {closeness : ℤ} where
     apart e = omega arith
 
     -- the two stars are close, and star b is within the limit
-    pub row-met : b < length marks → meetsBy stars closeness a b mark ≡ true → Row bright stars closeness a (b + 1) 1 (set marks b 1)
+    pub row-met : b < length marks → meetsBy closeness (pairDot stars a b) mark ≡ true → Row bright stars closeness a (b + 1) 1 (set marks b 1)
     unfolding meetsBy
     row-met l e =
         let p = and-eq-true-iff (not (eqb mark 2)) (leZ closeness (pairDot stars a b)) .0 e in
@@ -136,7 +136,7 @@ module _ {bright : ℕ → Bool} {stars : List ℤ} {closeness : ℤ} where
         go k m (yes d) = rw d t
         go k m (no d) = R .passed k (omega arith)
 
-    pub row-apart : meetsBy stars closeness a b mark ≡ false → Row bright stars closeness a (b + 1) own marks
+    pub row-apart : meetsBy closeness (pairDot stars a b) mark ≡ false → Row bright stars closeness a (b + 1) own marks
     unfolding meetsBy
     row-apart e = go (ℕ-discrete mark 2)
       where

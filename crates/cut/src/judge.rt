@@ -1,10 +1,12 @@
 // Which records go, judged before anything moves: a mark for each. Each pair of stars is looked at once.
+use vectors::Vec3;
 ghost use mathlib.Core.Bool.{Bool, cond};
 ghost use mathlib.Core.Path.{_≡_};
 ghost use Prim.Native.Nat.{ℕ, _+_, _<_, _≤_};
 ghost use lib.Signed.{leZ};
 ghost use lib.ListN.{length, getD};
-ghost use Rattle.vectors.specs.Triples.{triples, Listed, pairDot};
+ghost use Rattle.vectors.specs.Vectors.{Within3, dotOf};
+ghost use Rattle.vectors.specs.Triples.{triples, Listed, tripleAt};
 ghost use Rattle.catalogue.specs.Format.{recordsIn};
 ghost use Rattle.catalogue.specs.Valid.{Valid};
 ghost use Rattle.flight.specs.Flight.{isBright};
@@ -44,16 +46,17 @@ fn magnitudes(bytes: &[u8], limit: i32) -> [u8; 512]
     marks
 }
 
-// Whether star b, which has this mark, is within the limit and close to star a.
-fn meets(stars: &[i32], closeness: i64, a: usize, b: usize, mark: u8) -> bool
+// Whether star b, which has this mark, is within the limit and close to a star.
+fn meets(stars: &[i32], closeness: i64, star: Vec3, b: usize, mark: u8) -> bool
     requires { ⌜ Listed 512 (now stars) ⌝ }
-    requires { ⌜ (a < triples (now stars)) × (b < triples (now stars)) ⌝ }
-    ensures { λ r. ⌜ r ≡ meetsBy (now (stars .entry)) closeness a b mark ⌝ }
+    requires { ⌜ Within3 1000000000 star ⌝ }
+    requires { ⌜ b < triples (now stars) ⌝ }
+    ensures { λ r. ⌜ r ≡ meetsBy closeness (dotOf star (tripleAt (now (stars .entry)) b)) mark ⌝ }
 {
     if mark == FAINT {
         return false;
     }
-    closeness <= vectors::pair_dot(stars, a, b)
+    closeness <= vectors::dot(star, vectors::triple_at(stars, b))
 }
 
 // Looks at star a with each star before it: where two within the limit are close, both are marked.
@@ -65,10 +68,11 @@ fn crowd(stars: &[i32], closeness: i64, a: usize, marks: &mut [u8])
     if marks[a] == FAINT {
         return;
     }
+    let star = vectors::triple_at(stars, a);
     let mut own: u8 = KEPT;
     let mut b: usize = 0;
     while b < a {
-        if meets(stars, closeness, a, b, marks[b]) {
+        if meets(stars, closeness, star, b, marks[b]) {
             marks[b] = CROWDED;
             own = CROWDED;
         }

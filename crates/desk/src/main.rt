@@ -2,6 +2,7 @@
 // the script `mnemathor` tells them from an answer.
 use catalogue::MOST_RECORDS;
 use catalogue::RECORD_SIZE;
+use cut_lines::Limit;
 use libc::STDERR_FILENO;
 use libc::STDOUT_FILENO;
 use text::Parsed;
@@ -29,6 +30,13 @@ fn index_usage() {
     io::write_all(
         STDERR_FILENO,
         b"usage: ./mnemathor index CATALOGUE FLOOR OUT\n",
+    );
+}
+
+fn cut_usage() {
+    io::write_all(
+        STDERR_FILENO,
+        b"usage: ./mnemathor cut CATALOGUE LIMIT CLOSENESS OUT\n",
     );
 }
 
@@ -135,15 +143,15 @@ fn save(name: &[u8], bytes: &[u8], answer: &[u8]) {
     show(b"not written\n");
 }
 
-// Saves what was made, under the name that the fourth word gives, or shows why there is nothing.
-fn keep(accepted: bool, index: &[u8], answer: &[u8]) {
+// Saves what was made, under the name that word i gives, or shows why there is nothing.
+fn keep(i: usize, accepted: bool, made: &[u8], answer: &[u8]) {
     if !accepted {
         show(answer);
         return;
     }
     let mut name = [0u8; PATH_ROOM];
-    let n = os::arg(4, &mut name);
-    save(&name[..n], index, answer);
+    let n = os::arg(i, &mut name);
+    save(&name[..n], made, answer);
 }
 
 // The index of a catalogue's bytes, made in the lent room.
@@ -152,7 +160,7 @@ fn make(catalogue: &[u8], floor: i64, index: &mut [u8]) {
     let made = desk_lines::index(catalogue, floor, index, &mut line);
     let bytes = made.bytes;
     let length = made.line;
-    keep(made.accepted, &index[..bytes], &line[..length]);
+    keep(4, made.accepted, &index[..bytes], &line[..length]);
 }
 
 // The index of the catalogue that the second word names.
@@ -175,6 +183,47 @@ fn index_words() {
         return;
     };
     index(g);
+}
+
+fn limit(i: usize) -> Limit {
+    let mut buffer = [0u8; 4096];
+    let n = os::arg(i, &mut buffer);
+    cut_lines::parse_limit(&buffer[..n])
+}
+
+// Cuts a catalogue in its buffer, and saves the records that are kept.
+fn trim(catalogue: &mut [u8], limit: i32, closeness: i64) {
+    let mut line = [0u8; cut_lines::LINE];
+    let made = cut_lines::cut_text(catalogue, limit, closeness, &mut line);
+    let bytes = made.bytes;
+    let length = made.line;
+    keep(5, made.accepted, &catalogue[..bytes], &line[..length]);
+}
+
+// The cut of the catalogue that the second word names.
+fn cut(limit: i32, closeness: i64) {
+    let mut catalogue = [0u8; CATALOGUE_ROOM];
+    let m = read_named(2, &mut catalogue);
+    trim(&mut catalogue[..m], limit, closeness);
+}
+
+// cut CATALOGUE LIMIT CLOSENESS OUT
+fn cut_words() {
+    if os::arg_count() != 6 {
+        cut_usage();
+        return;
+    }
+    let most = limit(3);
+    let closeness = signed(4);
+    let Limit::Number(l) = most else {
+        cut_usage();
+        return;
+    };
+    let Signed::Number(c) = closeness else {
+        cut_usage();
+        return;
+    };
+    cut(l, c);
 }
 
 // What changed from the catalogue that the second word names to the one that the third does.
@@ -222,6 +271,10 @@ fn rival_words() {
 fn main() {
     if word_is(1, b"index") {
         index_words();
+        return;
+    }
+    if word_is(1, b"cut") {
+        cut_words();
         return;
     }
     if word_is(1, b"compare") {

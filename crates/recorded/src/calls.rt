@@ -10,6 +10,7 @@ use crate::stream::half;
 use crate::stream::read_directions;
 use crate::stream::read_wholes;
 use crate::stream::read_words;
+use crate::stream::signed_half;
 use crate::stream::word;
 use handover::signed;
 
@@ -252,6 +253,19 @@ pub fn compare(fd: i32, bytes: &mut [u8], stars: &mut [u8], room: &mut [u8]) {
     print_call(17, &out, 3);
     print_more(before);
     print_more(bytes_checksum(&room[0..w]));
+    print_end();
+}
+
+pub fn cut(fd: i32, stars: &mut [u8]) {
+    let limit = signed_half(word(fd));
+    let closeness = signed(word(fd));
+    let s = expand(fd, 1, stars);
+    let before = bytes_checksum(&stars[0..s]);
+    let mut out = [0i64; 64];
+    exports_cut::mnemathor_cut(&mut stars[0..s], limit, closeness, &mut out);
+    print_call(19, &out, 3);
+    print_more(before);
+    print_more(bytes_checksum(&stars[0..s]));
     print_end();
 }
 

@@ -34,6 +34,7 @@ fn run(
         16 => calls::lens(fd),
         17 => calls::compare(fd, bytes, stars, index),
         18 => calls::rival(fd, bytes, stars, room),
+        19 => calls::cut(fd, stars),
         8 => calls::chain(fd, bytes, samples, stars, room),
         _ => calls::reason(fd, bytes, samples),
     }

@@ -154,7 +154,7 @@ fn words(bytes: &[u8], room: &mut [u16]) -> usize
 }
 
 // The number of 4 bytes, signed.
-fn signed_half(n: u64) -> i32 {
+pub fn signed_half(n: u64) -> i32 {
     let half = n % 0x1_0000_0000;
     if half < 0x8000_0000 {
         half as i32
