@@ -9,7 +9,7 @@ use crate::float::{settled, Float};
 use crate::index::Index;
 use crate::lens::Plate;
 use crate::search::{rival_within, search_within, Effort, GaveUp};
-use crate::{attitude, catalogue, direction, frame, gimbal, index, plain, ranking};
+use crate::{attitude, catalogue, direction, frame, gimbal, guider, index, plain, ranking};
 
 #[derive(Debug, Clone, Copy, PartialEq, Eq)]
 pub enum Entry {
@@ -32,9 +32,11 @@ pub enum Entry {
     Compare,
     Rival,
     Cut,
+    GuiderStart,
+    GuiderFrame,
 }
 
-pub const ENTRIES: [Entry; 19] = [
+pub const ENTRIES: [Entry; 21] = [
     Entry::Verdict,
     Entry::List,
     Entry::Direction,
@@ -54,6 +56,8 @@ pub const ENTRIES: [Entry; 19] = [
     Entry::Compare,
     Entry::Rival,
     Entry::Cut,
+    Entry::GuiderStart,
+    Entry::GuiderFrame,
 ];
 
 impl Entry {
@@ -78,6 +82,8 @@ impl Entry {
             Entry::Compare => "compare",
             Entry::Rival => "rival",
             Entry::Cut => "cut",
+            Entry::GuiderStart => "guider start",
+            Entry::GuiderFrame => "guider frame",
         }
     }
 
@@ -92,7 +98,7 @@ impl Entry {
 
     /// How many of the 64 numbers the recorded output shows.
     pub fn numbers_shown(self) -> usize {
-        [8, 30, 5, 3, 2, 11, 11, 47, 6, 3, 2, 47, 3, 2, 2, 3, 3, 11, 3][self.index()]
+        [8, 30, 5, 3, 2, 11, 11, 47, 6, 3, 2, 47, 3, 2, 2, 3, 3, 11, 3, 2, 2][self.index()]
     }
 
     /// Whether plain Rust has this call too.
@@ -120,6 +126,7 @@ impl Entry {
             Entry::Lens => &[19],
             Entry::Compare => &[6, 7, 20],
             Entry::Cut => &[6, 7, 21],
+            Entry::GuiderStart | Entry::GuiderFrame => &[22],
         }
     }
 
@@ -168,6 +175,16 @@ impl<T: Element> Buffer<T> {
         Buffer::repeat(values.len(), &values[..shortest_period(values)])
     }
 
+    /// Exactly these elements, as patches on zeros.
+    pub fn sparse(values: &[T]) -> Self {
+        let lit = |&(_, value): &(usize, T)| value != T::default();
+        Buffer {
+            len: values.len(),
+            pattern: Vec::new(),
+            patches: values.iter().copied().enumerate().filter(lit).collect(),
+        }
+    }
+
     pub fn set(&mut self, index: usize, value: T) {
         assert!(index < self.len);
         self.patches.push((index, value));
@@ -202,7 +219,7 @@ impl<T: Element> Buffer<T> {
         values
     }
 
-    fn write(&self, bytes: &mut Vec<u8>) {
+    pub(crate) fn write(&self, bytes: &mut Vec<u8>) {
         assert!(self.pattern.len() <= self.len && self.patches.len() <= 4_096);
         write_word(bytes, self.len as u64);
         write_word(bytes, self.pattern.len() as u64);
@@ -231,7 +248,7 @@ fn shortest_period<T: PartialEq>(values: &[T]) -> usize {
     values.len() - shared.last().copied().unwrap_or(0)
 }
 
-fn write_word(bytes: &mut Vec<u8>, word: u64) {
+pub(crate) fn write_word(bytes: &mut Vec<u8>, word: u64) {
     bytes.extend(word.to_be_bytes());
 }
 
@@ -271,6 +288,13 @@ pub struct Call {
     pub target: Buffer<Float>,
     /// The room for the turned target.
     pub turned: Buffer<Float>,
+    pub half_width: i64,
+    /// Identity, x and y of each guide to start with.
+    pub guides: Buffer<i64>,
+    /// The room for a guider's numbers, or a guider handed in.
+    pub guider: Buffer<i64>,
+    /// The numbers that the list's call gave for a frame.
+    pub list: Buffer<i64>,
 }
 
 /// The buffers of a call, as memory.
@@ -289,6 +313,9 @@ pub struct Lent {
     pub rows: Vec<Float>,
     pub target: Vec<Float>,
     pub turned: Vec<Float>,
+    pub guides: Vec<i64>,
+    pub guider: Vec<i64>,
+    pub list: Vec<i64>,
 }
 
 impl Lent {
@@ -342,6 +369,10 @@ impl Call {
             rows: Buffer::default(),
             target: Buffer::default(),
             turned: Buffer::default(),
+            half_width: 0,
+            guides: Buffer::default(),
+            guider: Buffer::default(),
+            list: Buffer::default(),
         }
     }
 
@@ -366,6 +397,8 @@ impl Call {
             }
             Entry::Lens => lens.to_vec(),
             Entry::Cut => vec![signed(self.limit.into()), signed(self.closeness)],
+            Entry::GuiderStart => vec![signed(self.half_width)],
+            Entry::GuiderFrame => vec![],
         }
     }
 
@@ -431,6 +464,14 @@ impl Call {
                 self.target.write(bytes);
                 self.turned.write(bytes);
             }
+            Entry::GuiderStart => {
+                self.guides.write(bytes);
+                self.guider.write(bytes);
+            }
+            Entry::GuiderFrame => {
+                self.guider.write(bytes);
+                self.list.write(bytes);
+            }
         }
     }
 
@@ -463,6 +504,9 @@ impl Call {
             rows: self.rows.values(),
             target: self.target.values(),
             turned: self.turned.values(),
+            guides: self.guides.values(),
+            guider: self.guider.values(),
+            list: self.list.values(),
         }
     }
 
@@ -543,6 +587,13 @@ impl Call {
                 effort,
             )?),
             Entry::Cut => numbers(&cut(&mut lent.catalogue, self.limit, self.closeness)),
+            Entry::GuiderStart => {
+                numbers(&guider::guider_start(self.half_width, &lent.guides, &mut lent.guider))
+            }
+            Entry::GuiderFrame => {
+                let guider = (&mut lent.guider[..]).try_into().expect("the call is lent a guider");
+                numbers(&guider::guider_frame(guider, &exactly(&lent.list)))
+            }
         };
         Ok(Outcome { out, lent })
     }
@@ -648,6 +699,14 @@ impl Call {
                 &lent.ranking,
             )),
             Entry::Cut => numbers(&plain::cut(&mut lent.catalogue, self.limit, self.closeness)),
+            Entry::GuiderStart => {
+                let guider = plain::guider_start(self.half_width, &lent.guides);
+                numbers(&guider.map(|guider| lent.guider.copy_from_slice(&guider)))
+            }
+            Entry::GuiderFrame => {
+                let guider = (&mut lent.guider[..]).try_into().expect("the call is lent a guider");
+                numbers(&plain::guider_frame(guider, &exactly(&lent.list)))
+            }
             Entry::Reason => panic!("plain Rust has no {}", self.entry.name()),
         }
     }
@@ -663,6 +722,11 @@ impl Call {
     /// Whether the call is lent a room of bytes to write in.
     pub fn writes_bytes(&self) -> bool {
         matches!(self.entry, Entry::Index | Entry::Burst | Entry::Compare)
+    }
+
+    /// Whether the call is lent room for a guider's numbers.
+    pub fn writes_guider(&self) -> bool {
+        matches!(self.entry, Entry::GuiderStart | Entry::GuiderFrame)
     }
 
     /// Whether the call writes over the catalogue.

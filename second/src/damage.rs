@@ -86,6 +86,7 @@ pub fn damage(call: &mut Call, reason: u8, random: &Random) {
             shorten(&mut call.bytes, full, compare::RECORD_BYTES, random);
         }
         21 => keep_nothing(call, random),
+        22 => damage_guider(call, random),
         23 => damage_matrix(call, random),
         _ => {}
     }
@@ -318,6 +319,37 @@ fn damage_index(call: &mut Call, random: &Random) {
         }
     }
     call.index = Buffer::of(&bytes);
+}
+
+/// Makes a start's guides, or a guider or list handed in, break the guider's rules.
+fn damage_guider(call: &mut Call, random: &Random) {
+    let beyond = random.pick(&[-1, 261_889, i64::MIN, i64::MAX, (1 << 32) + 100]);
+    let (start, guides) = match call.entry {
+        Entry::GuiderStart => (true, call.guides.len / 3),
+        _ => (false, call.guider.get(1).clamp(0, 4) as usize),
+    };
+    let (numbers, first, size) = if start { (&mut call.guides, 0, 3) } else { (&mut call.guider, 2, 4) };
+    let guide = first + size * random.below(guides.max(1));
+    match random.below(if start { 4 } else { 7 }) {
+        0 if start => call.half_width = random.pick(&[2_561, beyond]),
+        0 => numbers.set(0, random.pick(&[2_561, beyond])),
+        1 if guides > 0 => numbers.set(guide + 1 + random.below(2), beyond),
+        // The identity of another guide.
+        2 if guides > 1 => {
+            let [one, other] = [0, 1 + random.below(guides - 1)].map(|k| first + size * k);
+            let identity = numbers.get(one);
+            numbers.set(other, identity);
+        }
+        3 if start => *numbers = Buffer::of(&[numbers.values(), vec![9; 3 * (5 - guides)]].concat()),
+        3 => numbers.set(1, random.pick(&[5, -1, i64::MIN, i64::MAX])),
+        4 if guides > 0 => numbers.set(guide + 3, random.pick(&[6, -1, i64::MAX])),
+        5 => call.list.set(2, random.pick(&[9, -1, i64::MAX])),
+        6 if call.list.get(2) > 0 => {
+            let star = 6 + 3 * random.below(call.list.get(2).min(8) as usize);
+            call.list.set(star + random.below(2), beyond);
+        }
+        _ => {}
+    }
 }
 
 /// Leaves fewer directions than are needed, with the ranking cut to them.

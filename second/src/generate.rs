@@ -11,11 +11,13 @@ use crate::{burst, catalogue, direction, dot, frame, index, ranking};
 mod compare;
 mod cut;
 mod gimbal;
+mod guider;
 mod lens;
 
 pub use compare::*;
 pub use cut::*;
 pub use gimbal::*;
+pub use guider::*;
 pub use lens::*;
 
 pub const MOST_TOLERANCE: u64 = 10_000_000_000_000_000;
@@ -480,6 +482,8 @@ pub fn any_call(random: &Random, entry: Entry) -> Call {
         Entry::Lens => any_lens(random),
         Entry::Compare => any_compare(random),
         Entry::Cut => any_cut(random),
+        Entry::GuiderStart => any_guider_start(random),
+        Entry::GuiderFrame => any_guider_frame(random),
     };
     if random.chance(35) && !entry.faults().is_empty() {
         for _ in 0..random.pick(&[1, 1, 1, 2, 3]) {

@@ -199,6 +199,23 @@ extern "C" {
         out: *mut i64,
         out_len: usize,
     );
+    fn mnemathor_guider_start(
+        half_width: i64,
+        guides: *const i64,
+        guides_len: usize,
+        guider: *mut i64,
+        guider_len: usize,
+        out: *mut i64,
+        out_len: usize,
+    );
+    fn mnemathor_guider_frame(
+        guider: *mut i64,
+        guider_len: usize,
+        list: *const i64,
+        list_len: usize,
+        out: *mut i64,
+        out_len: usize,
+    );
     fn mnemathor_compare(
         first: *const u8,
         first_len: usize,
@@ -227,6 +244,9 @@ pub fn run(call: &Call, lent: &mut Lent, out: &mut [i64]) {
     let bytes = (lent.bytes.as_mut_ptr(), lent.bytes.len());
     let other = (lent.other.as_mut_ptr(), lent.other.len());
     let matrix = (lent.matrix.as_mut_ptr(), lent.matrix.len());
+    let guides = (lent.guides.as_mut_ptr(), lent.guides.len());
+    let guider = (lent.guider.as_mut_ptr(), lent.guider.len());
+    let list = (lent.list.as_mut_ptr(), lent.list.len());
     let rows = floats(&mut lent.rows);
     let target = floats(&mut lent.target);
     let turned = floats(&mut lent.turned);
@@ -359,6 +379,10 @@ pub fn run(call: &Call, lent: &mut Lent, out: &mut [i64]) {
                 mnemathor_turned(rows.0, rows.1, target.0, target.1, turned.0, turned.1, out.0, out.1)
             }
             Entry::Lens => mnemathor_lens(kind, first, second, out.0, out.1),
+            Entry::GuiderStart => {
+                mnemathor_guider_start(call.half_width, guides.0, guides.1, guider.0, guider.1, out.0, out.1)
+            }
+            Entry::GuiderFrame => mnemathor_guider_frame(guider.0, guider.1, list.0, list.1, out.0, out.1),
             Entry::Cut => mnemathor_cut(catalogue.0, catalogue.1, call.limit, call.closeness, out.0, out.1),
             Entry::Compare => {
                 mnemathor_compare(catalogue.0, catalogue.1, other.0, other.1, bytes.0, bytes.1, out.0, out.1)

@@ -14,6 +14,7 @@ use crate::sky::{self, record, record_of};
 mod compare;
 mod cut;
 mod gimbal;
+mod guider;
 mod lens;
 mod rival;
 
@@ -58,6 +59,8 @@ pub fn calls() -> Vec<Call> {
             Entry::Compare => compare::pairs(&random, &mut calls),
             Entry::Rival => rival::rivals(&random, &mut calls),
             Entry::Cut => cut::cuts(&random, &mut calls),
+            Entry::GuiderStart => guider::starts(&random, &mut calls),
+            Entry::GuiderFrame => guider::frames(&random, &mut calls),
         }
     }
     calls
@@ -105,6 +108,9 @@ fn line(case: &Case) -> String {
     if case.call.writes_catalogue() {
         numbers.push(checksum(&case.call.catalogue.values()));
         numbers.push(checksum(&after.catalogue));
+    }
+    if case.call.writes_guider() {
+        numbers.extend(&after.guider);
     }
     let floats = case.call.floats_written(after).iter().map(Float::to_string);
     numbers.iter().map(i64::to_string).chain(floats).collect::<Vec<_>>().join(" ")

@@ -2,6 +2,7 @@
 //! implementation where plain Rust has no such call. It lets `compare` and `bench` be tried without the archive.
 
 use crate::answer::{numbers, Answer, Refusal};
+use crate::guider::GUIDER_NUMBERS;
 use crate::{frame, plain};
 use std::slice::{from_raw_parts, from_raw_parts_mut};
 
@@ -361,4 +362,37 @@ unsafe extern "C" fn mnemathor_cut(
 ) {
     let catalogue = from_raw_parts_mut(catalogue, catalogue_len);
     answer(out, out_len, || plain::cut(catalogue, limit, closeness));
+}
+
+#[no_mangle]
+unsafe extern "C" fn mnemathor_guider_start(
+    half_width: i64,
+    guides: *const i64,
+    guides_len: usize,
+    guider: *mut i64,
+    guider_len: usize,
+    out: *mut i64,
+    out_len: usize,
+) {
+    let guides = from_raw_parts(guides, guides_len);
+    // Another length than a guider's: nothing is done.
+    let guider: Result<&mut [i64; GUIDER_NUMBERS], _> = from_raw_parts_mut(guider, guider_len).try_into();
+    if let Ok(guider) = guider {
+        answer(out, out_len, || plain::guider_start(half_width, guides).map(|started| *guider = started));
+    }
+}
+
+#[no_mangle]
+unsafe extern "C" fn mnemathor_guider_frame(
+    guider: *mut i64,
+    guider_len: usize,
+    list: *const i64,
+    list_len: usize,
+    out: *mut i64,
+    out_len: usize,
+) {
+    let guider = from_raw_parts_mut(guider, guider_len).try_into();
+    if let (Ok(guider), Ok(list)) = (guider, from_raw_parts(list, list_len).try_into()) {
+        answer(out, out_len, || plain::guider_frame(guider, list));
+    }
 }

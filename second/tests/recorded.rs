@@ -115,6 +115,14 @@ impl Reader<'_> {
                 assert_eq!(self.words(), lent.room);
                 assert_eq!(self.bytes(), lent.bytes);
             }
+            Entry::GuiderStart => {
+                assert_eq!(self.buffer(8, 18), lent.guides);
+                assert_eq!(self.buffer(8, 18), lent.guider);
+            }
+            Entry::GuiderFrame => {
+                assert_eq!(self.buffer(8, 18), lent.guider);
+                assert_eq!(self.buffer(8, 64), lent.list);
+            }
             Entry::Compare => {
                 assert_eq!(self.catalogue(), lent.catalogue);
                 assert_eq!(self.catalogue(), lent.other);
@@ -134,7 +142,7 @@ impl Reader<'_> {
 }
 
 fn scalar_count(entry: Entry) -> usize {
-    [5, 3, 7, 0, 1, 2, 0, 10, 5, 1, 2, 11, 10, 0, 0, 3, 0, 2, 2][entry.index()]
+    [5, 3, 7, 0, 1, 2, 0, 10, 5, 1, 2, 11, 10, 0, 0, 3, 0, 2, 2, 1, 0][entry.index()]
 }
 
 #[test]

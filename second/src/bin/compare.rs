@@ -23,7 +23,8 @@ const DIFFERENCES_SHOWN: u64 = 5;
 /// No call of the library may take more stack than this.
 const STACK: usize = 64 * 1024;
 /// Calls of each entry point in a round: more of the quick ones.
-const CALLS_A_ROUND: [usize; ENTRIES.len()] = [4, 2, 8, 4, 2, 4, 8, 1, 4, 2, 2, 1, 1, 8, 16, 16, 4, 3, 4];
+const CALLS_A_ROUND: [usize; ENTRIES.len()] =
+    [4, 2, 8, 4, 2, 4, 8, 1, 4, 2, 2, 1, 1, 8, 16, 16, 4, 3, 4, 8, 16];
 
 #[derive(Default, Clone, Copy)]
 struct Count {
@@ -165,6 +166,9 @@ impl Run {
         show_buffer("matrix", &lent.matrix);
         show_buffer("rows", &lent.rows);
         show_buffer("target", &lent.target);
+        show_buffer("guides", &lent.guides);
+        show_buffer("guider", &lent.guider);
+        show_buffer("list", &lent.list);
         if call.writes_ranking() {
             println!("  room of {} words", lent.room.len());
         }
@@ -204,6 +208,10 @@ fn lend_other_length(random: &Random, call: &mut Call) -> bool {
         (Entry::Turned, 0) => call.rows = call.rows.resized(random.pick(&[0, 3, 8, 10])),
         (Entry::Turned, 1) => call.target = call.target.resized(random.pick(&[0, 1, 2, 4])),
         (Entry::Turned, _) => call.turned = call.turned.resized(random.pick(&[0, 1, 2])),
+        (Entry::GuiderStart, _) | (Entry::GuiderFrame, 0) => {
+            call.guider = call.guider.resized(random.pick(&[0, 1, 2, 17]));
+        }
+        (Entry::GuiderFrame, _) => call.list = call.list.resized(random.pick(&[0, 1, 2, 29, 63])),
         _ => return false,
     }
     true
@@ -236,6 +244,9 @@ fn first_difference(expected: &[i64], expected_memory: &Lent, out: &[i64], lent:
         .or_else(|| buffer_difference("row float", &expected_memory.rows, &lent.rows))
         .or_else(|| buffer_difference("target float", &expected_memory.target, &lent.target))
         .or_else(|| buffer_difference("turned float", &expected_memory.turned, &lent.turned))
+        .or_else(|| buffer_difference("guide number", &expected_memory.guides, &lent.guides))
+        .or_else(|| buffer_difference("guider number", &expected_memory.guider, &lent.guider))
+        .or_else(|| buffer_difference("list number", &expected_memory.list, &lent.list))
 }
 
 fn buffer_difference<T: PartialEq + std::fmt::Display>(

@@ -1,8 +1,11 @@
-//! Direction cosines, turned targets and lens plates, many at a time: one alone is too short to be timed.
+//! Direction cosines, turned targets, lens plates and guider frames, many at a time: one alone is too short to be
+//! timed.
 
 use second::call::Call;
 use second::float::Float;
-use second::generate::{any_focal, attitude_matrix, cosines_of, lens_of, plate_of, turned_of};
+use second::generate::{
+    any_focal, any_guider_frame, attitude_matrix, cosines_of, lens_of, plate_of, turned_of,
+};
 use second::gimbal::cosines;
 use second::random::Random;
 
@@ -12,6 +15,7 @@ pub fn inputs(random: &Random) -> Vec<(&'static str, Vec<Call>)> {
     vec![
         ("cosines, 1000 matrices", many(|| cosines_of(&attitude_matrix(random)))),
         ("row by target, 1000 targets", many(|| turned(random))),
+        ("guider frame, 1000 guiders", many(|| any_guider_frame(random))),
         ("lens, 1000 plates of either form", many(|| lens_of(plate_of(random, any_focal(random))))),
     ]
 }

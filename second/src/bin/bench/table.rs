@@ -76,6 +76,9 @@ fn restore(call: &Call, lent: &mut Lent, before: &Lent) {
     if call.writes_catalogue() {
         lent.catalogue.copy_from_slice(&before.catalogue);
     }
+    if call.writes_guider() {
+        lent.guider.copy_from_slice(&before.guider);
+    }
 }
 
 fn seconds_a_time(mut work: impl FnMut()) -> f64 {
