@@ -65,6 +65,9 @@ changesRoom = 20
 abbrev pub nothingKept : ℕ
 nothingKept = 21
 
+abbrev pub guider : ℕ
+guider = 22
+
 abbrev pub entry : ℕ
 entry = 23
 
@@ -73,4 +76,4 @@ abbrev pub inOrder : List ℕ
 inOrder =
     size ∷ samples ∷ threshold ∷ sample ∷ settings ∷ catalogue ∷ recordRule ∷ directions ∷
     demand ∷ room ∷ ranking ∷ few ∷ noFit ∷ close ∷ pixel ∷ indexRoom ∷
-    index ∷ recordsRoom ∷ lens ∷ changesRoom ∷ nothingKept ∷ entry ∷ []
+    index ∷ recordsRoom ∷ lens ∷ changesRoom ∷ nothingKept ∷ guider ∷ entry ∷ []

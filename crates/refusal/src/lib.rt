@@ -47,11 +47,13 @@ pub const LENS: u32 = 19;
 pub const CHANGES_ROOM: u32 = 20;
 // Of the catalogue that is to be cut nothing would be kept.
 pub const NOTHING_KEPT: u32 = 21;
+// The guider's half-width, its guides, or a frame's list is out of range.
+pub const GUIDER: u32 = 22;
 // A matrix entry handed in is beyond 8 * 10^9.
 pub const ENTRY: u32 = 23;
 
 // All of them in the table's order, each the number that specs/Numbers has under its name.
-pub fn numbers_in_order() -> [u32; 22]
+pub fn numbers_in_order() -> [u32; 23]
     ensures { λ r. ⌜ r ≡ inOrder ⌝ }
 {
     [
@@ -76,6 +78,7 @@ pub fn numbers_in_order() -> [u32; 22]
         LENS,
         CHANGES_ROOM,
         NOTHING_KEPT,
+        GUIDER,
         ENTRY,
     ]
 }
