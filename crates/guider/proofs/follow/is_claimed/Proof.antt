@@ -1,0 +1,17 @@
+-- `guider::follow::is_claimed` meets its contract. Assumes nothing.
+use borrow.Author.Needs.{needs}
+use borrow.Author.Tests.{lt-ltb, le-ltb}
+use Rattle.guider.proofs.follow.is_claimed.Statement.{statement}
+use Rattle.guider.proofs.follow.is_claimed.Tie as tie
+
+returns : tie.Need-returns
+returns c = simp (le-ltb _ _ (c .if1 .taken))
+
+in-box-requires : tie.Need-in-box-requires
+in-box-requires c κs = search needs
+
+returns-2 : tie.Need-returns-2
+returns-2 c = simp (lt-ltb _ _ (c .before .if1 .left), c .in-box .ensures)
+
+pub is-claimed-spec : {M : Type 1} → statement M
+is-claimed-spec = tie.close (tie.spec returns in-box-requires returns-2)

@@ -1,0 +1,97 @@
+// The guider: up to four guides, each followed from frame to frame in a box around its last position. It sees a frame's list, and nothing below knows it.
+ghost use mathlib.Core.Path.{_≡_};
+ghost use mathlib.Core.Bool.{true};
+ghost use Rattle.guider.specs.Rule.{guiderOk};
+ghost use Rattle.guider.specs.Calls.{refusedWith, startedOf, followedOf, guidedOf};
+use frame::Listing;
+use frame::Report;
+use refusal::Outcome;
+
+mod check; // check.rt: the rule of a guider and of a list
+mod fresh; // fresh.rt: a guider that has missed nothing
+mod follow; // follow.rt: where each guide is after a frame
+
+// The misses at which a guide is dropped.
+const DROPPED: u64 = 5;
+
+// A guide: the star's identity, its last position in 1/256 pixel, and how many frames in a row it was missed.
+pub struct Guide {
+    pub identity: u64,
+    pub x: u64,
+    pub y: u64,
+    pub misses: u64,
+}
+
+// Half the side of the boxes in 1/256 pixel, and the guides: the first count of them.
+pub struct Guider {
+    pub half: u64,
+    pub count: usize,
+    pub guides: [Guide; 4],
+}
+
+// An array stands beside an enum and not in it.
+pub struct Guided {
+    pub outcome: Outcome,
+    pub guider: Guider,
+}
+
+// Refusal 22, with the guider that is handed back.
+fn refused(guider: Guider) -> Guided
+    ensures { λ r. ⌜ r ≡ refusedWith guider ⌝ }
+{
+    Guided {
+        outcome: refusal::plain(refusal::GUIDER),
+        guider,
+    }
+}
+
+// A guider for these stars, three numbers each: identity, x and y. Where the call is refused the guider is zeros.
+pub fn start(half: u64, stars: &[u64]) -> Guided
+    ensures { λ r. ⌜ r ≡ startedOf half (now (stars .entry)) ⌝ }
+{
+    if stars.len() % 3 != 0 {
+        return refused(fresh::nobody());
+    }
+    if 12 < stars.len() {
+        return refused(fresh::nobody());
+    }
+    let guider = fresh::guider_of(half, stars);
+    if !check::guider_ok(guider) {
+        return refused(fresh::nobody());
+    }
+    Guided {
+        outcome: Outcome::Accepted,
+        guider,
+    }
+}
+
+// The guider after a frame that was accepted.
+fn followed(guider: Guider, report: Report) -> Guided
+    requires { ⌜ guiderOk guider ≡ true ⌝ }
+    ensures { λ r. ⌜ r ≡ followedOf guider report ⌝ }
+{
+    if !check::list_ok(report) {
+        return refused(guider);
+    }
+    Guided {
+        outcome: Outcome::Accepted,
+        guider: follow::after(guider, report),
+    }
+}
+
+// The guider after a frame. Where the call is refused it stays as it was, and a refused frame counts as no frame.
+pub fn frame(guider: Guider, listing: Listing) -> Guided
+    ensures { λ r. ⌜ r ≡ guidedOf guider listing ⌝ }
+{
+    if !check::guider_ok(guider) {
+        return refused(guider);
+    }
+    let seen = listing.outcome;
+    match seen {
+        Outcome::Refused(_) => Guided {
+            outcome: Outcome::Accepted,
+            guider,
+        },
+        Outcome::Accepted => followed(guider, listing.report),
+    }
+}
