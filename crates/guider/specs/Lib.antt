@@ -4,3 +4,6 @@ pub mod Guider
 pub mod Rule
 pub mod RuleLaws
 pub mod Calls
+pub mod FollowLaws
+pub mod AfterLaws
+pub mod ChainLaws

@@ -68,3 +68,11 @@ one-counted (suc n) test k h e f = go (ℕ-discrete k n) (λ l. one-counted n te
     go (no d) g =
         let z : one (test n) ≡ 0 = ap one (unless (test n) n (f n (omega arith)) (λ p. d (sym p))) in
         omega (arith, g (omega arith))
+
+-- and where all pass, all are counted
+pub all-counted : (n : ℕ) (test : ℕ → Bool) → ((k : ℕ) → k < n → test k ≡ true) → number n test ≡ n
+unfolding number
+all-counted zero test h = refl
+all-counted (suc n) test h =
+    let z : one (test n) ≡ 1 = ap one (h n (omega arith)) in
+    omega (arith, all-counted n test (λ k l. h k (omega arith)))
