@@ -78,6 +78,11 @@ module _ (g : Guider) (frames : ℕ → Listing) where
   chain-joined m zero = ap (guiderAt g frames) (add-zero m)
   chain-joined m (suc n) = ap (guiderAt g frames) (add-suc m n) ∙ ap (λ (x : Guider). guidedOf x (frames (m + n)) .guider) (chain-joined m n)
 
+  pub chain-count : (n : ℕ) → guiderAt g frames n .count ≡ g .count
+  unfolding guiderAt
+  chain-count zero = refl
+  chain-count (suc n) = count-kept (guiderAt g frames n) (frames n) ∙ chain-count n
+
   module _ (w : Whole g) where
     pub chain-whole : (n : ℕ) → Whole (guiderAt g frames n)
     unfolding guiderAt
@@ -99,11 +104,6 @@ module _ (g : Guider) (frames : ℕ → Listing) where
       unfolding guiderAt
       chain-rule zero = ok
       chain-rule (suc n) = rule-kept (guiderAt g frames n) (frames n) (chain-whole n) (chain-rule n)
-
-      pub chain-count : (n : ℕ) → guiderAt g frames n .count ≡ g .count
-      unfolding guiderAt
-      chain-count zero = refl
-      chain-count (suc n) = count-kept (guiderAt g frames n) (frames n) ∙ chain-count n
 
       module _ (i : ℕ) (here : i < g .count) where
         -- a guide that follows at none of n frames has as many misses more as frames counted, and five at the most

@@ -7,3 +7,6 @@ pub mod Calls
 pub mod FollowLaws
 pub mod AfterLaws
 pub mod ChainLaws
+pub mod OrderLaws
+pub mod StartLaws
+pub mod FrameLaws
