@@ -40,9 +40,12 @@ dropped = 5
 abbrev pub live : Guide → Bool
 live guide = ltb (guide .misses) dropped
 
--- guide i is live and has the star in its box
+-- the guide is live and has the star in its box
+abbrev pub claimed : ℕ → Guide → Centroid → Bool
+claimed half guide star = live guide && inBox half guide star
+
 abbrev pub claims : Guider → Centroid → ℕ → Bool
-claims g star i = live (guideAt g i) && inBox (g .half) (guideAt g i) star
+claims g star i = claimed (g .half) (guideAt g i) star
 
 -- some live guide other than guide i has the star in its box
 unfoldable pub shared : Guider → ℕ → Centroid → Bool

@@ -1,8 +1,10 @@
 // The rule of a guider, whether it was just made or is handed in, and of a frame's list.
 ghost use mathlib.Core.Path.{_≡_};
 ghost use Prim.Native.Nat.{_<_, _≤_};
+ghost use lib.Dec.{eqb};
 ghost use Rattle.guider.specs.Rule.{onFrame, newIdentity, guideOk, guiderOk, listOk};
 use crate::DROPPED;
+use crate::Guide;
 use crate::Guider;
 use frame::Report;
 
@@ -20,6 +22,13 @@ fn on_frame(x: u64, y: u64) -> bool
     y <= FARTHEST
 }
 
+// Whether two guides have one identity. A dropped guide keeps its identity.
+fn is_same(a: Guide, b: Guide) -> bool
+    ensures { λ r. ⌜ r ≡ eqb (a .identity) (b .identity) ⌝ }
+{
+    a.identity == b.identity
+}
+
 // Whether no guide before guide i has its identity.
 fn is_new(guider: Guider, i: usize) -> bool
     requires { ⌜ i < 4 ⌝ }
@@ -30,7 +39,7 @@ fn is_new(guider: Guider, i: usize) -> bool
     let mut j: usize = 0;
     while j < i {
         let other = guides[j];
-        if other.identity == guide.identity {
+        if is_same(other, guide) {
             return false;
         }
         j += 1;

@@ -1,10 +1,9 @@
 // Where each guide is after a frame. All boxes, and which guides are live, are those before it.
 ghost use mathlib.Core.Path.{_≡_};
-ghost use mathlib.Core.Bool.{true};
 ghost use Prim.Native.Nat.{_<_, _≤_};
 ghost use Rattle.counting.specs.First.{first};
 ghost use Rattle.counting.specs.Number.{number};
-ghost use Rattle.guider.specs.Guider.{apart as apartOf, inBox, live, shared, inside, guideAfter, guidesAfter, guiderAfter, missed as missedOf};
+ghost use Rattle.guider.specs.Guider.{apart as apartOf, inBox, claimed, shared, inside, guideAfter, guidesAfter, guiderAfter, missed as missedOf};
 use crate::DROPPED;
 use crate::Guide;
 use crate::Guider;
@@ -30,12 +29,12 @@ fn in_box(half: u64, guide: Guide, star: Centroid) -> bool
 
 // Whether the guide is live and has the star in its box.
 fn is_claimed(half: u64, guide: Guide, star: Centroid) -> bool
-    ensures { λ r. ⌜ r ≡ mathlib.Core.Bool._&&_ (live guide) (inBox half guide star) ⌝ }
+    ensures { λ r. ⌜ r ≡ claimed half guide star ⌝ }
 {
-    if DROPPED <= guide.misses {
-        return false;
+    if guide.misses < DROPPED {
+        return in_box(half, guide, star);
     }
-    in_box(half, guide, star)
+    false
 }
 
 // Whether some live guide other than guide i has the star in its box.
@@ -96,6 +95,7 @@ fn first_inside(guider: Guider, report: Report, i: usize) -> usize
     k
 }
 
+// The guide where it was, with one miss more.
 fn missed(guide: Guide) -> Guide
     requires { ⌜ guide .misses < 5 ⌝ }
     ensures { λ r. ⌜ r ≡ missedOf guide ⌝ }
@@ -134,6 +134,7 @@ fn guide_after(guider: Guider, report: Report, i: usize) -> Guide
     }
 }
 
+// The guides after the frame. Each is judged by the guider as it was before.
 fn guides_after(guider: Guider, report: Report) -> [Guide; 4]
     requires { ⌜ (guider .count ≤ 4) × (report .count ≤ 8) ⌝ }
     ensures { λ r. ⌜ r ≡ guidesAfter guider report (guider .count) ⌝ }
@@ -148,6 +149,7 @@ fn guides_after(guider: Guider, report: Report) -> [Guide; 4]
     guides
 }
 
+// The guider after the frame.
 pub(crate) fn after(guider: Guider, report: Report) -> Guider
     requires { ⌜ (guider .count ≤ 4) × (report .count ≤ 8) ⌝ }
     ensures { λ r. ⌜ r ≡ guiderAfter guider report ⌝ }

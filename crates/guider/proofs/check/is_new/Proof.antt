@@ -6,7 +6,6 @@ use Prim.Native.Nat.{_≤_, _-_}
 use native.Mathlib.Omega.{arith}
 use lib.Dec.{eqb}
 use lib.ListN.{getD}
-use borrow.Author.Tests.{eq-eqb, ne-eqb}
 use Rattle.assignment.specs.Tests.{all}
 use Rattle.assignment.proofs.Tests as tests
 use Rattle.guider.specs.Guider.{noGuide}
@@ -35,9 +34,13 @@ mul-other c = search needs
 array-copy-out-other : tie.Need-array-copy-out-other Inv-loop μ-loop
 array-copy-out-other c = search needs
 
+is-same-requires : tie.Need-is-same-requires Inv-loop μ-loop
+is-same-requires c κs = search needs
+
 returns : tie.Need-returns Inv-loop μ-loop
 returns c =
-    sym (tests.all-false _ _ (c .before .before .before .before .before .loop .j) (omega arith) (ap not (eq-eqb _ _ (c .if1 .taken))))
+    let s = c .before .is-same in
+    sym (tests.all-false _ _ (c .before .before .before .before .loop .j) (omega arith) (ap not (sym (s .ensures) ∙ c .if1 .taken)))
 
 add-j : tie.Need-add-j Inv-loop μ-loop
 add-j c = search needs
@@ -47,7 +50,8 @@ loop-less c = search needs
 
 loop-again : tie.Need-loop-again Inv-loop μ-loop
 loop-again c =
-    (omega arith, tests.all-more _ _ (c .before .before .before .before .before .loop .inv .1) (ap not (ne-eqb _ _ (c .if1 .left))))
+    let s = c .before .is-same in
+    (omega arith, tests.all-more _ _ (c .before .before .before .before .loop .inv .1) (ap not (sym (s .ensures) ∙ c .if1 .left)))
 
 returns-2 : tie.Need-returns-2 Inv-loop μ-loop
 returns-2 c = sym (tests.all-of _ _ (λ m h. tests.all-true _ _ (c .before .loop .inv .1) m (omega arith)))
@@ -63,6 +67,7 @@ is-new-spec =
     loop-holds
     mul-other
     array-copy-out-other
+    is-same-requires
     returns
     add-j
     loop-less

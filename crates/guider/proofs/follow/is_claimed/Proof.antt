@@ -4,14 +4,14 @@ use borrow.Author.Tests.{lt-ltb, le-ltb}
 use Rattle.guider.proofs.follow.is_claimed.Statement.{statement}
 use Rattle.guider.proofs.follow.is_claimed.Tie as tie
 
-returns : tie.Need-returns
-returns c = simp (le-ltb _ _ (c .if1 .taken))
-
 in-box-requires : tie.Need-in-box-requires
 in-box-requires c κs = search needs
 
+returns : tie.Need-returns
+returns c = simp (lt-ltb _ _ (c .before .if1 .taken), c .in-box .ensures)
+
 returns-2 : tie.Need-returns-2
-returns-2 c = simp (lt-ltb _ _ (c .before .if1 .left), c .in-box .ensures)
+returns-2 c = simp (le-ltb _ _ (c .if1 .left))
 
 pub is-claimed-spec : {M : Type 1} → statement M
-is-claimed-spec = tie.close (tie.spec returns in-box-requires returns-2)
+is-claimed-spec = tie.close (tie.spec in-box-requires returns returns-2)
