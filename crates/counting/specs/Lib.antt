@@ -3,3 +3,4 @@ pub mod Contradiction
 pub mod First
 pub mod Number
 pub mod NumberLaws
+pub mod One

@@ -1,11 +1,11 @@
 -- Request T-14 in plain terms: the guider after a frame, guide by guide, and what a call keeps. Assumes nothing.
 use mathlib.Core.Bool.{Bool, true, false, cond, not, _&&_, _||_}
 use mathlib.Core.Path.{_≡_, refl, sym, ap, _∙_}
-use Prim.Native.Nat.{ℕ, zero, suc, _+_, _≤_, _<_}
+use Prim.Native.Nat.{ℕ, zero, suc, _≤_, _<_}
 use native.Mathlib.Decide.{ℕ-discrete}
 use native.Mathlib.Nat.{not-suc-le-zero}
 use native.Mathlib.Omega.{arith}
-use lib.ListN.{length, getD, length-set, length-replicate}
+use lib.ListN.{length, getD, length-set}
 use lib.Seq.{getD-set-same, getD-set-other}
 use Rattle.counting.specs.Contradiction.{contradiction}
 use Rattle.assignment.proofs.Tests.{and-right}
@@ -17,11 +17,11 @@ use Rattle.frame.specs.declared.Report.{Report}
 use Rattle.frame.specs.declared.Listing.{Listing}
 use Rattle.guider.specs.declared.Guide.{Guide}
 use Rattle.guider.specs.declared.Guider.{Guider}
-use Rattle.guider.specs.Guider.{noGuide, guideAt, starAt, guideAfter, guidesAfter, guiderAfter}
+use Rattle.guider.specs.Guider.{noGuide, guideAt, guideAfter, guidesAfter, guiderAfter}
 use Rattle.guider.specs.Rule.{guiderOk, listOk}
 use Rattle.guider.specs.RuleLaws.{OnFrame, GuiderRule, ListRule, guider-keeps, guider-ok, list-keeps}
-use Rattle.guider.specs.Calls.{accepted, refusedWith, seenBy, followedOf, guidedOf}
-use Rattle.guider.specs.FollowLaws.{Follows, follower, misser, stayer, fates}
+use Rattle.guider.specs.Calls.{accepted, refusedWith, seenBy, guidedOf}
+use Rattle.guider.specs.FollowLaws.{follower, misser, stayer, fates}
 
 -- an array of guides has four places
 abbrev pub Whole : Guider → Type 0

@@ -1,7 +1,7 @@
 -- Request T-14: a chain of frames is the step repeated, shown once for any number of them; so a guide is dropped exactly at the fifth miss in a row.
 -- Assumes nothing.
 use mathlib.Core.Bool.{Bool, true, false}
-use mathlib.Core.Path.{_≡_, refl, sym, ap, _∙_}
+use mathlib.Core.Path.{_≡_, refl, ap, _∙_}
 use Prim.Native.Nat.{ℕ, zero, suc, _+_, _≤_, _<_, min}
 use native.Mathlib.Decide.{decLt}
 use native.Mathlib.Nat.{add-zero, add-suc}
@@ -11,7 +11,7 @@ use Rattle.counting.specs.Number.{one, number}
 use Rattle.frame.specs.declared.Listing.{Listing}
 use Rattle.guider.specs.declared.Guide.{Guide}
 use Rattle.guider.specs.declared.Guider.{Guider}
-use Rattle.guider.specs.One.{all-counted}
+use Rattle.counting.specs.One.{all-counted}
 use Rattle.guider.specs.Guider.{guideAt, starAt, moved, guideAfter, guiderAfter}
 use Rattle.guider.specs.Rule.{guiderOk}
 use Rattle.guider.specs.RuleLaws.{guider-keeps}

@@ -14,7 +14,7 @@ use Rattle.centroid.specs.declared.Centroid.{Centroid}
 use Rattle.frame.specs.declared.Report.{Report}
 use Rattle.guider.specs.declared.Guide.{Guide}
 use Rattle.guider.specs.declared.Guider.{Guider}
-use Rattle.guider.specs.One.{first-counted, only-one, one-counted}
+use Rattle.counting.specs.One.{first-counted, only-one, one-counted}
 use Rattle.guider.specs.Guider.{guideAt, starAt, apart, inBox, live, claims, shared, inside, starIn, follows, moved, missed, guideAfter}
 
 -- the star lies in the box around the guide's position, its border included

@@ -13,7 +13,7 @@ use Rattle.frame.specs.Stars.{reportOf}
 use Rattle.frame.specs.Calls.{listingOf}
 use Rattle.frame.specs.CallsLaws.{star-range}
 use Rattle.guider.specs.declared.Guider.{Guider}
-use Rattle.guider.specs.Rule.{guiderOk, listOk}
+use Rattle.guider.specs.Rule.{guiderOk}
 use Rattle.guider.specs.RuleLaws.{ListRule, list-ok}
 use Rattle.guider.specs.Calls.{guidedOf}
 use Rattle.guider.specs.AfterLaws.{isAccepted, refused-where}

@@ -7,7 +7,7 @@ use Prim.Native.Nat.{ℕ, zero, suc, _≤_, _<_}
 use native.Mathlib.Decide.{decLt, ℕ-discrete}
 use native.Mathlib.Omega.{arith}
 use lib.Dec.{eqb}
-use lib.ListN.{length, getD, set, length-set}
+use lib.ListN.{length, set, length-set}
 use lib.Seq.{getD-set-same, getD-set-other, ext-getD}
 use borrow.Author.Tests.{eq-eqb, ne-eqb}
 use Rattle.counting.specs.Contradiction.{contradiction}
@@ -19,7 +19,7 @@ use Rattle.guider.specs.Guider.{noGuide, guideAt, starAt, moved, missed,
 use Rattle.guider.specs.Rule.{guiderOk}
 use Rattle.guider.specs.RuleLaws.{GuiderRule, guider-keeps, guider-ok}
 use Rattle.guider.specs.Calls.{guidedOf}
-use Rattle.guider.specs.FollowLaws.{InBox, Follows, follower, misser, stayer, fates}
+use Rattle.guider.specs.FollowLaws.{Follows, follower, misser, stayer, fates}
 use Rattle.guider.specs.AfterLaws.{Whole, guide-after, guide-behind, whole-after, counts, counted, uncounted, unruly, refused-where}
 use Rattle.guider.specs.ChainLaws.{guiderAt, chain-whole, chain-count}
 

@@ -1,12 +1,11 @@
 -- The rule of a guider and of a frame's list in plain terms: each test says just that. Assumes nothing.
-use mathlib.Core.Bool.{Bool, true, false, not}
-use mathlib.Core.Path.{_≡_, refl, sym, ap}
+use mathlib.Core.Bool.{true, not}
+use mathlib.Core.Path.{_≡_, sym, ap}
 use Prim.Native.Nat.{ℕ, _≤_, _<_}
 use native.Mathlib.Decide.{decLt}
 use native.Mathlib.Omega.{arith}
 use lib.Dec.{eqb, leb}
-use borrow.Author.Tests.{leb-true, le-leb, eqb-true, eq-eqb, eqb-false, ne-eqb, not-true}
-use Rattle.assignment.specs.Tests.{all}
+use borrow.Author.Tests.{leb-true, le-leb, eqb-false, ne-eqb, not-true}
 use Rattle.assignment.proofs.Tests.{all-true, all-of, and-left, and-right, and-both}
 use Rattle.frame.specs.declared.Report.{Report}
 use Rattle.guider.specs.declared.Guider.{Guider}

@@ -7,11 +7,10 @@ use native.Mathlib.Decide.{ℕ-discrete}
 use native.Mathlib.Nat.{not-suc-le-zero}
 use native.Mathlib.Omega.{arith}
 use lib.Dec.{eqb, leb}
-use lib.ListN.{length, getD, set, replicate, length-set, length-replicate}
+use lib.ListN.{length, getD, set, length-set, length-replicate}
 use lib.Seq.{getD-set-same, getD-set-other}
 use borrow.Author.Tests.{eqb-true, eq-eqb, leb-true, le-leb}
-use Rattle.counting.specs.Contradiction.{contradiction}
-use Rattle.assignment.proofs.Tests.{and-left, and-right, and-both}
+use Rattle.assignment.proofs.Tests.{and-left, and-right}
 use Rattle.refusal.specs.declared.Outcome.the-variants.{Accepted}
 use Rattle.guider.specs.declared.Guide.{Guide}
 use Rattle.guider.specs.Guider.{noGuide, guideAt}

@@ -1,6 +1,6 @@
 // The rule of a guider, whether it was just made or is handed in, and of a frame's list.
 ghost use mathlib.Core.Path.{_≡_};
-ghost use Prim.Native.Nat.{_<_, _≤_};
+ghost use Prim.Native.Nat.{_<_};
 ghost use lib.Dec.{eqb};
 ghost use Rattle.guider.specs.Rule.{onFrame, newIdentity, guideOk, guiderOk, listOk};
 use crate::DROPPED;

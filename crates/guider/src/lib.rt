@@ -2,7 +2,8 @@
 ghost use mathlib.Core.Path.{_≡_};
 ghost use mathlib.Core.Bool.{true};
 ghost use Rattle.guider.specs.Rule.{guiderOk};
-ghost use Rattle.guider.specs.Calls.{refusedWith, startedOf, followedOf, guidedOf};
+ghost use Rattle.guider.specs.Answers.{answerOf, startAnswer, frameAnswer};
+ghost use Rattle.guider.specs.Calls.{nobody, refusedWith, startedOf, followedOf, guidedOf};
 use frame::Listing;
 use frame::Report;
 use refusal::Outcome;
@@ -45,19 +46,27 @@ fn refused(guider: Guider) -> Guided
     }
 }
 
-// A guider for these stars, three numbers each: identity, x and y. Where the call is refused the guider is zeros.
+// Refusal 22, and no guider made: it is zeros.
+pub fn unmade() -> Guided
+    ensures { λ r. ⌜ r ≡ refusedWith nobody ⌝ }
+{
+    refused(fresh::nobody())
+}
+
+// A guider for these stars, three numbers each: identity, x and y.
 pub fn start(half: u64, stars: &[u64]) -> Guided
     ensures { λ r. ⌜ r ≡ startedOf half (now (stars .entry)) ⌝ }
+    ensures { λ r. ⌜ answerOf r ≡ startAnswer half (now (stars .entry)) ⌝ }
 {
     if stars.len() % 3 != 0 {
-        return refused(fresh::nobody());
+        return unmade();
     }
     if 12 < stars.len() {
-        return refused(fresh::nobody());
+        return unmade();
     }
     let guider = fresh::guider_of(half, stars);
     if !check::guider_ok(guider) {
-        return refused(fresh::nobody());
+        return unmade();
     }
     Guided {
         outcome: Outcome::Accepted,
@@ -82,6 +91,7 @@ fn followed(guider: Guider, report: Report) -> Guided
 // The guider after a frame. Where the call is refused it stays as it was, and a refused frame counts as no frame.
 pub fn frame(guider: Guider, listing: Listing) -> Guided
     ensures { λ r. ⌜ r ≡ guidedOf guider listing ⌝ }
+    ensures { λ r. ⌜ answerOf r ≡ frameAnswer guider listing ⌝ }
 {
     if !check::guider_ok(guider) {
         return refused(guider);

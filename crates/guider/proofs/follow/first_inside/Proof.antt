@@ -1,11 +1,11 @@
 -- `guider::follow::first_inside` meets its contract. The invariant: no star passed lies in the box. Assumes nothing.
 use borrow.Author.Needs.{needs}
-use mathlib.Core.Path.{_≡_, refl, sym, ap, _∙_}
+use mathlib.Core.Path.{_≡_, sym, _∙_}
 use mathlib.Core.Bool.{false}
 use Prim.Native.Nat.{ℕ, _≤_, _<_, _-_}
 use native.Mathlib.Omega.{arith}
 use borrow.Author.Count.{below-none, below-more}
-use Rattle.counting.specs.First.{first, first-of}
+use Rattle.counting.specs.First.{first-of}
 use Rattle.guider.specs.Guider.{inside}
 use Rattle.guider.proofs.follow.first_inside.Statement.{statement}
 use Rattle.guider.proofs.follow.first_inside.Tie as tie

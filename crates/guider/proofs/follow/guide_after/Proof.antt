@@ -4,7 +4,7 @@ use mathlib.Core.Path.{_≡_, sym, ap, _∙_}
 use Prim.Native.Nat.{ℕ, _<_}
 use native.Mathlib.Omega.{arith}
 use borrow.Author.Tests.{lt-ltb, le-ltb, eq-eqb, ne-eqb}
-use Rattle.guider.specs.One.{first-counted}
+use Rattle.counting.specs.One.{first-counted}
 use Rattle.guider.specs.Guider.{guideAt, starAt, inside, starIn, shared, follows, moved, guideAfter}
 use Rattle.guider.proofs.follow.guide_after.Statement.{statement}
 use Rattle.guider.proofs.follow.guide_after.Tie as tie

@@ -1,15 +1,13 @@
 -- A count of exactly one: which number it is, and that it is the only one. Assumes nothing.
 use mathlib.Core.Bool.{Bool, true, false}
 use mathlib.Core.Path.{_≡_, refl, sym, ap, _∙_}
-use mathlib.Core.Logic.{⊎-elim}
 use Prim.Native.Nat.{ℕ, zero, suc, _+_, _≤_, _<_}
 use native.Mathlib.Decide.{decLt, ℕ-discrete}
 use native.Mathlib.Nat.{not-suc-le-zero}
 use native.Mathlib.Omega.{arith}
-use Rattle.counting.specs.Contradiction.{contradiction}
 use Rattle.counting.specs.First.{first, first-is}
 use Rattle.counting.specs.Number.{one, number}
-use Rattle.counting.specs.NumberLaws.{number-none, number-next}
+use Rattle.counting.specs.NumberLaws.{number-none}
 
 -- where any is counted, the first is below the end
 pub first-counted : (n : ℕ) (test : ℕ → Bool) → 1 ≤ number n test → first test n < n
