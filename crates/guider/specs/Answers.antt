@@ -1,17 +1,16 @@
 -- Request T-14: the calls' answers in the documents' own terms: the number and place of a refusal, or the guider's numbers. Assumes nothing.
-use mathlib.Core.Bool.{Bool, true, false, cond, _&&_}
+use mathlib.Core.Bool.{Bool, true, false, cond}
 use mathlib.Core.List.{List, [], _∷_, _++_, map}
 use mathlib.Core.Path.{_≡_, refl}
-use Prim.Native.Nat.{ℕ, _%_}
-use lib.Dec.{eqb, leb}
+use Prim.Native.Nat.{ℕ}
 use lib.IntN.{ℤ, pos}
-use lib.ListN.{length}
 use Rattle.refusal.specs.declared.Outcome.{Outcome}
 use Rattle.refusal.specs.declared.Outcome.the-variants.{Accepted, Refused}
 use Rattle.refusal.specs.Answer.{Answer, acceptedWith, refusedWith as refusedAs}
 use Rattle.frame.specs.declared.Report.{Report}
 use Rattle.frame.specs.declared.Listing.{Listing}
 use Rattle.guider.specs.declared.Guide.{Guide}
+use Rattle.guider.specs.declared.Sighting.{Sighting}
 use Rattle.guider.specs.declared.Guider.{Guider}
 use Rattle.guider.specs.declared.Guided.{Guided}
 use Rattle.guider.specs.Guider.{guideAt, guiderAfter}
@@ -37,9 +36,8 @@ abbrev pub answerOf : Guided → Answer
 answerOf r = answerBy (r .guider) (r .outcome)
 
 -- the answer that a start must have
-abbrev pub startAnswer : ℕ → List ℕ → Answer
-startAnswer half stars =
-    cond (eqb (length stars % 3) 0 && (leb (length stars) 12 && guiderOk (freshOf half stars))) (acceptedWith (valuesOf (freshOf half stars))) (refusedAs 22 0)
+abbrev pub startAnswer : ℕ → List Sighting → ℕ → Answer
+startAnswer half stars count = cond (guiderOk (freshOf half stars count)) (acceptedWith (valuesOf (freshOf half stars count))) (refusedAs 22 0)
 
 -- and the one of a frame: a refused frame leaves the guider
 abbrev pub seenAnswer : Guider → Report → Outcome → Answer
@@ -51,11 +49,11 @@ frameAnswer g l = cond (guiderOk g) (seenAnswer g (l .report) (l .outcome)) (ref
 
 -- ---- the calls have these answers
 
-pub start-answers : (half : ℕ) (stars : List ℕ) → answerOf (startedOf half stars) ≡ startAnswer half stars
+pub start-answers : (half : ℕ) (stars : List Sighting) (count : ℕ) → answerOf (startedOf half stars count) ≡ startAnswer half stars count
 unfolding startedOf
-start-answers half stars = by (eqb (length stars % 3) 0 && (leb (length stars) 12 && guiderOk (freshOf half stars))) refl
+start-answers half stars count = by (guiderOk (freshOf half stars count)) refl
   where
-    by : (t : Bool) → eqb (length stars % 3) 0 && (leb (length stars) 12 && guiderOk (freshOf half stars)) ≡ t → answerOf (startedOf half stars) ≡ startAnswer half stars
+    by : (t : Bool) → guiderOk (freshOf half stars count) ≡ t → answerOf (startedOf half stars count) ≡ startAnswer half stars count
     by true e = rw e
     by false e = rw e
 

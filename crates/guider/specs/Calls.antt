@@ -1,9 +1,8 @@
 -- Request T-14: what the guider's two calls give. Assumes nothing.
-use mathlib.Core.Bool.{cond, _&&_}
-use mathlib.Core.List.{List}
-use Prim.Native.Nat.{ℕ, zero, suc, _+_, _*_, _/_, _%_}
-use lib.ListN.{length, getD, set, replicate}
-use lib.Dec.{eqb, leb}
+use mathlib.Core.Bool.{cond}
+use mathlib.Core.List.{List, [], _∷_}
+use Prim.Native.Nat.{ℕ}
+use lib.ListN.{getD, replicate}
 use Rattle.refusal.specs.declared.Outcome.{Outcome}
 use Rattle.refusal.specs.declared.Outcome.the-variants.{Accepted, Refused}
 use Rattle.refusal.specs.Table.{refusalOf}
@@ -11,6 +10,7 @@ use Rattle.refusal.specs.Numbers as refusals
 use Rattle.frame.specs.declared.Report.{Report}
 use Rattle.frame.specs.declared.Listing.{Listing}
 use Rattle.guider.specs.declared.Guide.{Guide}
+use Rattle.guider.specs.declared.Sighting.{Sighting}
 use Rattle.guider.specs.declared.Guider.{Guider}
 use Rattle.guider.specs.declared.Guided.{Guided}
 use Rattle.guider.specs.Guider.{noGuide, guiderAfter}
@@ -29,22 +29,27 @@ accepted g = record { outcome = Accepted; guider = g }
 abbrev pub nobody : Guider
 nobody = record { half = 0; count = 0; guides = replicate 4 noGuide }
 
--- guide i of the numbers handed in: its identity, x and y; it has missed nothing
-abbrev pub freshGuide : List ℕ → ℕ → Guide
-freshGuide stars i = record { identity = getD stars (3 * i) 0; x = getD stars (3 * i + 1) 0; y = getD stars (3 * i + 2) 0; misses = 0 }
+abbrev pub noSighting : Sighting
+noSighting = record { identity = 0; x = 0; y = 0 }
 
--- the first n of them
-unfoldable pub freshGuides : List ℕ → ℕ → List Guide
-freshGuides stars zero = replicate 4 noGuide
-freshGuides stars (suc n) = set (freshGuides stars n) n (freshGuide stars n)
+abbrev pub sightingAt : List Sighting → ℕ → Sighting
+sightingAt stars i = getD stars i noSighting
 
-abbrev pub freshOf : ℕ → List ℕ → Guider
-freshOf half stars = record { half = half; count = length stars / 3; guides = freshGuides stars (length stars / 3) }
+-- the guide of a star handed in: it has missed nothing
+abbrev pub freshGuide : Sighting → Guide
+freshGuide star = record { identity = star .identity; x = star .x; y = star .y; misses = 0 }
 
--- three numbers a guide, four guides at the most, and the rule of a guider
-unfoldable pub startedOf : ℕ → List ℕ → Guided
-startedOf half stars =
-    cond (eqb (length stars % 3) 0 && (leb (length stars) 12 && guiderOk (freshOf half stars))) (accepted (freshOf half stars)) (refusedWith nobody)
+abbrev pub freshOf : ℕ → List Sighting → ℕ → Guider
+freshOf half stars count =
+    record {
+      half = half;
+      count = count;
+      guides = freshGuide (sightingAt stars 0) ∷ freshGuide (sightingAt stars 1) ∷ freshGuide (sightingAt stars 2) ∷ freshGuide (sightingAt stars 3) ∷ [];
+    }
+
+-- the rule of a guider is all that a start asks
+unfoldable pub startedOf : ℕ → List Sighting → ℕ → Guided
+startedOf half stars count = cond (guiderOk (freshOf half stars count)) (accepted (freshOf half stars count)) (refusedWith nobody)
 
 -- ---- a frame
 

@@ -1,19 +1,17 @@
 // A guider that has missed nothing.
 ghost use mathlib.Core.Path.{_≡_};
-ghost use Prim.Native.Nat.{_≤_};
-ghost use lib.ListN.{length};
-ghost use Rattle.guider.specs.Guider.{noGuide};
-ghost use Rattle.guider.specs.Calls.{nobody as nobodyOf, freshOf, freshGuides};
+ghost use Rattle.guider.specs.Calls.{nobody as nobodyOf, freshOf, freshGuide};
 use crate::Guide;
 use crate::Guider;
+use crate::Sighting;
 
-fn no_guide() -> Guide
-    ensures { λ r. ⌜ r ≡ noGuide ⌝ }
+fn guide_of(star: Sighting) -> Guide
+    ensures { λ r. ⌜ r ≡ freshGuide star ⌝ }
 {
     Guide {
-        identity: 0,
-        x: 0,
-        y: 0,
+        identity: star.identity,
+        x: star.x,
+        y: star.y,
         misses: 0,
     }
 }
@@ -22,7 +20,11 @@ fn no_guide() -> Guide
 pub(crate) fn nobody() -> Guider
     ensures { λ r. ⌜ r ≡ nobodyOf ⌝ }
 {
-    let none = no_guide();
+    let none = guide_of(Sighting {
+        identity: 0,
+        x: 0,
+        y: 0,
+    });
     Guider {
         half: 0,
         count: 0,
@@ -30,32 +32,16 @@ pub(crate) fn nobody() -> Guider
     }
 }
 
-fn guides_of(stars: &[u64]) -> [Guide; 4]
-    requires { ⌜ length (now stars) ≤ 12 ⌝ }
-    ensures { λ r. ⌜ r ≡ freshGuides (now (stars .entry)) (Prim.Native.Nat._/_ (length (now (stars .entry))) 3) ⌝ }
+pub(crate) fn guider_of(half: u64, stars: [Sighting; 4], count: usize) -> Guider
+    ensures { λ r. ⌜ r ≡ freshOf half stars count ⌝ }
 {
-    let none = no_guide();
-    let mut guides = [none; 4];
-    let mut i: usize = 0;
-    while i < stars.len() / 3 {
-        guides[i] = Guide {
-            identity: stars[3 * i],
-            x: stars[3 * i + 1],
-            y: stars[3 * i + 2],
-            misses: 0,
-        };
-        i += 1;
-    }
-    guides
-}
-
-pub(crate) fn guider_of(half: u64, stars: &[u64]) -> Guider
-    requires { ⌜ length (now stars) ≤ 12 ⌝ }
-    ensures { λ r. ⌜ r ≡ freshOf half (now (stars .entry)) ⌝ }
-{
+    let first = guide_of(stars[0]);
+    let second = guide_of(stars[1]);
+    let third = guide_of(stars[2]);
+    let fourth = guide_of(stars[3]);
     Guider {
         half,
-        count: stars.len() / 3,
-        guides: guides_of(stars),
+        count,
+        guides: [first, second, third, fourth],
     }
 }

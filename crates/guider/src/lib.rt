@@ -15,9 +15,16 @@ mod follow; // follow.rt: where each guide is after a frame
 // The misses at which a guide is dropped.
 const DROPPED: u64 = 5;
 
-// A guide: the star's identity, its last position in 1/256 pixel, and how many frames in a row it was missed.
+// A star to follow: its identity, which is a number of a catalogue, and its position in 1/256 pixel.
+pub struct Sighting {
+    pub identity: u32,
+    pub x: u64,
+    pub y: u64,
+}
+
+// A guide: the star's identity, its last position, and how many frames in a row it was missed.
 pub struct Guide {
-    pub identity: u64,
+    pub identity: u32,
     pub x: u64,
     pub y: u64,
     pub misses: u64,
@@ -53,18 +60,12 @@ pub fn unmade() -> Guided
     refused(fresh::nobody())
 }
 
-// A guider for these stars, three numbers each: identity, x and y.
-pub fn start(half: u64, stars: &[u64]) -> Guided
-    ensures { λ r. ⌜ r ≡ startedOf half (now (stars .entry)) ⌝ }
-    ensures { λ r. ⌜ answerOf r ≡ startAnswer half (now (stars .entry)) ⌝ }
+// A guider for the first count of these stars.
+pub fn start(half: u64, stars: [Sighting; 4], count: usize) -> Guided
+    ensures { λ r. ⌜ r ≡ startedOf half stars count ⌝ }
+    ensures { λ r. ⌜ answerOf r ≡ startAnswer half stars count ⌝ }
 {
-    if stars.len() % 3 != 0 {
-        return unmade();
-    }
-    if 12 < stars.len() {
-        return unmade();
-    }
-    let guider = fresh::guider_of(half, stars);
+    let guider = fresh::guider_of(half, stars, count);
     if !check::guider_ok(guider) {
         return unmade();
     }

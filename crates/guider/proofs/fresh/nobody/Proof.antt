@@ -3,11 +3,11 @@ use borrow.Author.Needs.{needs}
 use Rattle.guider.proofs.fresh.nobody.Statement.{statement}
 use Rattle.guider.proofs.fresh.nobody.Tie as tie
 
-no-guide-requires : tie.Need-no-guide-requires
-no-guide-requires c κs = search needs
+guide-of-requires : tie.Need-guide-of-requires
+guide-of-requires c κs = search needs
 
 returns : tie.Need-returns
-returns c = rw (c .no-guide .ensures)
+returns c = rw (c .guide-of .ensures)
 
 pub nobody-spec : {M : Type 1} → statement M
-nobody-spec = tie.close (tie.spec no-guide-requires returns)
+nobody-spec = tie.close (tie.spec guide-of-requires returns)
