@@ -165,3 +165,14 @@ module _ (g : Guider) (l : Listing) where
   pub count-kept : guidedOf g l .guider .count ≡ g .count
   unfolding guiderAfter
   count-kept = handed (λ x. x .count ≡ g .count) refl (λ t q. refl)
+
+  -- and an accepted call has at most four guides
+  pub accepted-few : isAccepted (guidedOf g l .outcome) ≡ true → guidedOf g l .guider .count ≤ 4
+  accepted-few e = by (guiderOk g) refl
+    where
+      not-so : guiderOk g ≡ false → isAccepted (guidedOf g l .outcome) ≡ false
+      not-so q = ap isAccepted refused-where ∙ rw q
+
+      by : (t : Bool) → guiderOk g ≡ t → guidedOf g l .guider .count ≤ 4
+      by true q = omega (arith, count-kept, guider-keeps g q .few)
+      by false q = contradiction (sym (not-so q) ∙ e)

@@ -1,0 +1,64 @@
+// The C interface of the guider. The guider is 18 numbers in a lent room that the caller keeps between calls: half-width, count, and identity, x, y and misses of four guides.
+mod rooms; // rooms.rt: the guider and a frame's list as numbers
+
+use guider::Guided;
+ghost use mathlib.Core.Path.{_≡_};
+ghost use Rattle.exports_guider.specs.Guider.{startedIn, startRoom, startHanded, framedIn, frameRoom, frameHanded};
+
+// Refusal 22 too where the numbers are not in threes.
+fn start_in(half: i64, stars: &[i64]) -> Guided
+    ensures { λ r. ⌜ r ≡ startedIn half (now (stars .entry)) ⌝ }
+{
+    if stars.len() % 3 != 0 {
+        return guider::unmade();
+    }
+    guider::start(
+        rooms::unsigned(half),
+        rooms::sightings_in(stars),
+        stars.len() / 3,
+    )
+}
+
+// A guider for these stars, three numbers each: identity, x and y. A refused call leaves the room as it is; without room for exactly 18 numbers nothing is done.
+#[no_mangle]
+pub extern "C" fn mnemathor_guider_start(
+    half: i64,
+    stars: &[i64],
+    guider: &mut [i64],
+    out: &mut [i64],
+)
+    ensures { λ _. ⌜ now (guider .exit) ≡ startRoom half (now (stars .entry)) (now (guider .entry)) ⌝ }
+    ensures { λ _. ⌜ now (out .exit) ≡ startHanded half (now (stars .entry)) (now (guider .entry)) (now (out .entry)) ⌝ }
+{
+    if guider.len() != rooms::NUMBERS {
+        return;
+    }
+    let started = start_in(half, stars);
+    let outcome = started.outcome;
+    rooms::put_started(guider, started);
+    handover::hand_over(out, handover::of_ranking(outcome));
+}
+
+fn frame_in(room: &[i64], list: &[i64]) -> Guided
+    ensures { λ r. ⌜ r ≡ framedIn (now (room .entry)) (now (list .entry)) ⌝ }
+{
+    guider::frame(rooms::guider_in(room), rooms::listing_in(list))
+}
+
+// The guider after a frame, whose list is handed in as mnemathor_list hands it over. A refused call leaves the room as it is; of another count of numbers nothing is done.
+#[no_mangle]
+pub extern "C" fn mnemathor_guider_frame(guider: &mut [i64], list: &[i64], out: &mut [i64])
+    ensures { λ _. ⌜ now (guider .exit) ≡ frameRoom (now (guider .entry)) (now (list .entry)) ⌝ }
+    ensures { λ _. ⌜ now (out .exit) ≡ frameHanded (now (guider .entry)) (now (list .entry)) (now (out .entry)) ⌝ }
+{
+    if guider.len() != rooms::NUMBERS {
+        return;
+    }
+    if list.len() != 64 {
+        return;
+    }
+    let framed = frame_in(&guider[0..18], list);
+    let outcome = framed.outcome;
+    rooms::put_framed(guider, framed);
+    handover::hand_over(out, handover::of_ranking(outcome));
+}
