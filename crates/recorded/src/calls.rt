@@ -1,18 +1,18 @@
 // The recorded calls, one function a kind: its numbers and buffers are read, the call is made, and what it hands over is printed.
-use crate::print::bytes_checksum;
-use crate::print::checksum;
-use crate::print::print_call;
-use crate::print::print_end;
-use crate::print::print_more;
-use crate::stream::expand;
-use crate::stream::float;
-use crate::stream::half;
-use crate::stream::read_directions;
-use crate::stream::read_wholes;
-use crate::stream::read_words;
-use crate::stream::signed_half;
-use crate::stream::word;
 use handover::signed;
+use playback::bytes_checksum;
+use playback::checksum;
+use playback::expand;
+use playback::float;
+use playback::half;
+use playback::print_call;
+use playback::print_end;
+use playback::print_more;
+use playback::read_directions;
+use playback::read_wholes;
+use playback::read_words;
+use playback::signed_half;
+use playback::word;
 
 pub fn verdict(fd: i32, bytes: &mut [u8], samples: &mut [u16]) {
     let width = word(fd) as usize;

@@ -1,9 +1,9 @@
 // The recorded calls of the gimbal computer. Their floats stand in the file, and are printed, by their bits.
-use crate::print::print_call;
-use crate::print::print_end;
-use crate::print::print_floats;
-use crate::stream::read_floats;
-use crate::stream::read_wholes;
+use playback::print_call;
+use playback::print_end;
+use playback::print_floats;
+use playback::read_floats;
+use playback::read_wholes;
 
 fn print_cosines(matrix: &[i64], rows: &mut [f64]) {
     let mut out = [0i64; 64];

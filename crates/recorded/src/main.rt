@@ -1,8 +1,7 @@
 // Runs the recorded calls of cases.bin and prints what each hands over.
 mod calls;
 mod gimbal;
-mod print;
-mod stream;
+mod guider;
 
 // The longest of the catalogues has 520 records.
 const CATALOGUE_ROOM: usize = catalogue::RECORD_SIZE * 520;
@@ -35,6 +34,8 @@ fn run(
         17 => calls::compare(fd, bytes, stars, index),
         18 => calls::rival(fd, bytes, stars, room),
         19 => calls::cut(fd, stars),
+        20 => guider::start(fd, bytes),
+        21 => guider::frame(fd, bytes),
         8 => calls::chain(fd, bytes, samples, stars, room),
         _ => calls::reason(fd, bytes, samples),
     }
@@ -51,7 +52,7 @@ fn run_all(
 ) -> u64 {
     let mut cases: u64 = 0;
     while cases < 1000000 {
-        let kind = stream::byte(fd);
+        let kind = playback::byte(fd);
         if kind == 0 {
             return cases;
         }
@@ -88,5 +89,5 @@ fn main() {
     libc::close(fd);
     io::write_all(libc::STDOUT_FILENO, b"cases ");
     io::print_decimal(libc::STDOUT_FILENO, cases);
-    print::print_end();
+    playback::print_end();
 }
