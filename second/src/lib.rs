@@ -41,6 +41,8 @@ pub mod sky;
 pub mod linked;
 #[cfg(feature = "stub")]
 mod stub;
+#[cfg(feature = "linked")]
+pub mod typed;
 
 /// 10^9: the length of a direction.
 pub const UNIT: i128 = 1_000_000_000;

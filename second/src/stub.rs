@@ -4,11 +4,26 @@
 use crate::answer::{numbers, Answer, Refusal};
 use crate::guider::GUIDER_NUMBERS;
 use crate::{frame, plain};
-use std::slice::{from_raw_parts, from_raw_parts_mut};
+use std::slice;
 
 /// A number of the interface as a wide one.
 fn wide(n: usize) -> i128 {
     n as i128
+}
+
+/// A lent buffer; NULL with length 0 is an empty one.
+unsafe fn from_raw_parts<'a, T>(pointer: *const T, len: usize) -> &'a [T] {
+    match len {
+        0 => &[],
+        _ => slice::from_raw_parts(pointer, len),
+    }
+}
+
+unsafe fn from_raw_parts_mut<'a, T>(pointer: *mut T, len: usize) -> &'a mut [T] {
+    match len {
+        0 => &mut [],
+        _ => slice::from_raw_parts_mut(pointer, len),
+    }
 }
 
 /// Makes the call, and writes the 64 numbers of its answer where there is room for them.

@@ -1,15 +1,17 @@
-//! A random run of the proved library against the wide implementation.
+//! The proved library, through its header for C, against the wide implementation.
 //!
-//! `compare SECONDS SEED` calls every entry point with sound and damaged inputs for about so long and
-//! compares all 64 numbers and every lent buffer. It ends with 1 if anything differs.
+//! `compare SECONDS SEED` makes the recorded calls, some at once in several threads, and then calls every entry point
+//! with sound and damaged inputs for about so long. It compares all 64 numbers and every lent buffer, and ends with 1 if
+//! anything differs.
 
-use second::call::{Call, Entry, Lent, ENTRIES};
+use second::answer::Numbers;
+use second::call::{Call, Entry, Lent, Outcome, ENTRIES};
 use second::dense;
 use second::generate::{any_call, lend_index, Scene};
 use second::hard::{unrelated, REACHES};
-use second::linked;
 use second::random::Random;
 use second::search::Effort;
+use second::{linked, recorded, typed};
 use std::env;
 use std::process::ExitCode;
 use std::thread;
@@ -22,6 +24,9 @@ const UNTOUCHED: i64 = 0x7A7A_7A7A_7A7A_7A7A;
 const DIFFERENCES_SHOWN: u64 = 5;
 /// No call of the library may take more stack than this.
 const STACK: usize = 64 * 1024;
+/// Threads that call the library at once, and how often each makes every call.
+const THREADS: usize = 4;
+const ROUNDS: usize = 3;
 /// Calls of each entry point in a round: more of the quick ones.
 const CALLS_A_ROUND: [usize; ENTRIES.len()] =
     [4, 2, 8, 4, 2, 4, 8, 1, 4, 2, 2, 1, 1, 8, 16, 16, 4, 3, 4, 8, 16];
@@ -34,10 +39,12 @@ struct Count {
     differences: u64,
 }
 
-/// The entry points' counts, and those of the calls that have no room for their numbers.
+/// The entry points' counts, those of the calls that have no room for their numbers, and how many calls went through
+/// the header.
 struct Run {
     entries: [Count; ENTRIES.len()],
     nothing: Count,
+    typed: u64,
     shown: u64,
 }
 
@@ -48,8 +55,15 @@ fn main() -> ExitCode {
         return ExitCode::FAILURE;
     };
     let random = Random::new(seed);
-    let mut run = Run { entries: [Count::default(); ENTRIES.len()], nothing: Count::default(), shown: 0 };
+    let mut run =
+        Run { entries: [Count::default(); ENTRIES.len()], nothing: Count::default(), typed: 0, shown: 0 };
     run_with_little_stack(&random);
+    let recorded = recorded::cases();
+    for case in &recorded {
+        run.compare_with(&case.call, &case.outcome);
+    }
+    println!("{} recorded calls made", recorded.len());
+    run.differ_in_threads(&random);
     let start = Instant::now();
     while start.elapsed() < Duration::from_secs(seconds) {
         for (entry, calls) in ENTRIES.into_iter().zip(CALLS_A_ROUND) {
@@ -95,26 +109,35 @@ fn run_with_little_stack(random: &Random) {
     let hard = unrelated(random, 5, 100_000_000_000_000, REACHES[0]);
     calls.extend([chain, by_index, index, hard]);
     for call in calls {
-        let (mut lent, mut out) = (call.lend(), [UNTOUCHED; 64]);
+        let mut lent = call.lend();
         thread::scope(|scope| {
             let builder = thread::Builder::new().stack_size(STACK);
-            builder.spawn_scoped(scope, || linked::run(&call, &mut lent, &mut out)).expect("a thread starts");
+            builder.spawn_scoped(scope, || made(&call, &mut lent)).expect("a thread starts");
         });
     }
     println!("every call runs in {STACK} bytes of stack");
 }
 
+/// Makes the call through the header, or by the archive's own function where the header's types leave no room for it.
+fn made(call: &Call, lent: &mut Lent) -> Numbers {
+    if typed::can_make(call) {
+        return typed::run(call, lent);
+    }
+    let mut out = [UNTOUCHED; 64];
+    linked::run(call, lent, &mut out);
+    out
+}
+
 impl Run {
     fn compare(&mut self, call: &Call) {
-        let Ok(expected) = call.run_wide(&mut Effort::up_to(MOST_STARS_TRIED)) else {
-            return;
-        };
-        let mut lent = call.lend();
-        let mut out = [UNTOUCHED; 64];
-        linked::run(call, &mut lent, &mut out);
-        lent.settle_floats();
+        if let Ok(expected) = call.run_wide(&mut Effort::up_to(MOST_STARS_TRIED)) {
+            self.compare_with(call, &expected);
+        }
+    }
 
-        let difference = first_difference(&expected.out, &expected.lent, &out, &lent);
+    fn compare_with(&mut self, call: &Call, expected: &Outcome) {
+        let difference = difference_from(call, expected);
+        self.typed += u64::from(typed::can_make(call));
         let count = &mut self.entries[call.entry.index()];
         count.compared += 1;
         match expected.out[0] {
@@ -125,6 +148,33 @@ impl Run {
             count.differences += 1;
             self.show(call, &difference);
         }
+    }
+
+    /// Every thread makes all the calls, each on its own buffers, beginning with another one.
+    fn differ_in_threads(&mut self, random: &Random) {
+        let calls: Vec<(Call, Outcome)> = ENTRIES
+            .iter()
+            .flat_map(|&entry| (0..40).map(move |_| any_call(random, entry)))
+            .filter_map(|call| {
+                let expected = call.run_wide(&mut Effort::up_to(MOST_STARS_TRIED)).ok()?;
+                Some((call, expected))
+            })
+            .collect();
+        let in_turn = |first: usize| {
+            let order = (0..ROUNDS * calls.len()).map(|k| (first + k) % calls.len());
+            order.filter_map(|k| Some((k, difference_from(&calls[k].0, &calls[k].1)?))).collect::<Vec<_>>()
+        };
+        let differences: Vec<(usize, String)> = thread::scope(|scope| {
+            let firsts = (0..THREADS).map(|thread| thread * calls.len() / THREADS);
+            let in_turn = &in_turn;
+            let threads: Vec<_> = firsts.map(|first| scope.spawn(move || in_turn(first))).collect();
+            threads.into_iter().flat_map(|thread| thread.join().expect("a thread ends")).collect()
+        });
+        for (k, difference) in &differences {
+            self.entries[calls[*k].0.entry.index()].differences += 1;
+            self.show(&calls[*k].0, &format!("in one of several threads: {difference}"));
+        }
+        println!("{} calls made {ROUNDS} times in each of {THREADS} threads at once", calls.len());
     }
 
     /// Room for fewer than 64 numbers: none is handed over, but the rooms take what the call writes there all the
@@ -194,7 +244,17 @@ impl Run {
             row(entry.name(), &self.entries[entry.index()]);
         }
         row("no numbers", &self.nothing);
+        println!("{} calls went through the header", self.typed);
     }
+}
+
+/// Makes the call, and says where its numbers, what it was lent, or a record as the header reads it are not as
+/// expected.
+fn difference_from(call: &Call, expected: &Outcome) -> Option<String> {
+    let mut lent = call.lend();
+    let out = made(call, &mut lent);
+    lent.settle_floats();
+    first_difference(&expected.out, &expected.lent, &out, &lent).or_else(|| typed::misread(call, &lent, &out))
 }
 
 /// Lends a call that takes just so many numbers another number of them; false where it is no such call.
