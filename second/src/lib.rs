@@ -15,6 +15,7 @@ pub mod cut;
 pub mod desk;
 pub mod direction;
 pub mod files;
+pub mod flight;
 pub mod float;
 pub mod frame;
 pub mod gimbal;

@@ -177,12 +177,7 @@ extern "C" {
         column: usize,
         reason: &mut Reason,
     ) -> Refusal;
-    fn mn_list(
-        samples: *const u16,
-        samples_len: usize,
-        settings: &Settings,
-        report: &mut Report,
-    ) -> Refusal;
+    fn mn_list(samples: *const u16, samples_len: usize, settings: &Settings, report: &mut Report) -> Refusal;
     fn mn_lens(lens: &Lens, focal_length: &mut i64) -> Refusal;
     fn mn_direction(settings: &Settings, x: i64, y: i64, direction: &mut Direction) -> Refusal;
     fn mn_catalogue(catalogue: *const u8, catalogue_len: usize, records: &mut i64) -> Refusal;
@@ -295,12 +290,7 @@ extern "C" {
         records_len: usize,
         frames: &mut i64,
     ) -> Refusal;
-    fn mn_guider_start(
-        half_width: i64,
-        stars: *const i64,
-        stars_len: usize,
-        guider: &mut Guider,
-    ) -> Refusal;
+    fn mn_guider_start(half_width: i64, stars: *const i64, stars_len: usize, guider: &mut Guider) -> Refusal;
     fn mn_guider_frame(guider: &mut Guider, seen: Refusal, report: &Report) -> Refusal;
     fn mn_read_star(catalogue: *const u8, k: usize, star: &mut Star);
     fn mn_read_pair(index: *const u8, k: usize, pair: &mut Pair);
@@ -381,9 +371,7 @@ pub fn run(call: &Call, lent: &mut Lent) -> Numbers {
                 let refusal = mn_catalogue(catalogue.0, catalogue.1, &mut records);
                 whole(refusal, records)
             }
-            Entry::Ranking => {
-                mn_ranking(directions, count, catalogue.0, catalogue.1, &set, room.0, room.1)
-            }
+            Entry::Ranking => mn_ranking(directions, count, catalogue.0, catalogue.1, &set, room.0, room.1),
             Entry::RankingByIndex => mn_ranking_by_index(
                 directions,
                 count,
@@ -398,27 +386,18 @@ pub fn run(call: &Call, lent: &mut Lent) -> Numbers {
             ),
             Entry::Index => {
                 let mut records = 0;
-                let refusal =
-                    mn_index(catalogue.0, catalogue.1, call.floor, bytes.0, bytes.1, &mut records);
+                let refusal = mn_index(catalogue.0, catalogue.1, call.floor, bytes.0, bytes.1, &mut records);
                 whole(refusal, records)
             }
             Entry::Compare => {
                 let mut records = 0;
-                let refusal = mn_compare(
-                    catalogue.0,
-                    catalogue.1,
-                    other.0,
-                    other.1,
-                    bytes.0,
-                    bytes.1,
-                    &mut records,
-                );
+                let refusal =
+                    mn_compare(catalogue.0, catalogue.1, other.0, other.1, bytes.0, bytes.1, &mut records);
                 whole(refusal, records)
             }
             Entry::Cut => {
                 let mut records = 0;
-                let refusal =
-                    mn_cut(catalogue.0, catalogue.1, call.limit, call.closeness, &mut records);
+                let refusal = mn_cut(catalogue.0, catalogue.1, call.limit, call.closeness, &mut records);
                 whole(refusal, records)
             }
             Entry::Search => {
@@ -634,13 +613,8 @@ fn three(centroid: &Centroid) -> [i64; 3] {
 /// What the kind names goes to its numbers. A field that it does not name must be 0: else the last number tells of it.
 fn put_reason(reason: &Reason, out: &mut Numbers) {
     let Reason { kind, sample, threshold, row, column, side, largest, centroid } = reason;
-    let fields = [
-        [*sample, *threshold, 0],
-        [*row, *column, 0],
-        [*side, 0, 0],
-        [*largest, 0, 0],
-        three(centroid),
-    ];
+    let fields =
+        [[*sample, *threshold, 0], [*row, *column, 0], [*side, 0, 0], [*largest, 0, 0], three(centroid)];
     out[2] = *kind;
     for (k, named) in fields.into_iter().enumerate() {
         match k as i64 == *kind {

@@ -1,19 +1,25 @@
-//! Runs the program on many folders and compares what it prints with the second listing, or the desk's rival.
+//! Runs the program on many folders and compares what it prints with the second listing, or with the desk's rivals.
 //!
-//! `programs PROGRAM FOLDER [rival]`: the files of each case are written into FOLDER, and PROGRAM is run there, with the
-//! word that is given.
+//! `programs PROGRAM FOLDER`: the files of each case are written into FOLDER, and PROGRAM is run there.
+//! `programs PROGRAM FOLDER rival`: PROGRAM is the desk, and is given that word.
+//! `programs PROGRAM FOLDER BURST`: a burst is written under that name too, PROGRAM is given the name, and the lines of
+//! the guider are expected behind the listing.
 
 use second::call::{Buffer, Call, Entry};
 use second::desk;
+use second::flight::burst_lines;
 use second::generate::{dark_frame, random_stars, set_pixel, Scene, MOST_TOLERANCE};
 use second::lens::Plate;
 use second::listing::listing;
 use second::random::Random;
+use second::search::Effort;
 use second::{float, recorded, sky};
 use std::path::Path;
 use std::process::{Command, ExitCode};
 use std::{env, fs, io};
 
+/// Bursts with longer searches are left out.
+const MOST_STARS_TRIED: u64 = 300_000;
 const NAMES: [&str; 3] = ["settings.bin", "catalogue.bin", "frame.bin"];
 
 /// The three files; one that is missing counts as empty.
@@ -24,19 +30,26 @@ type Text = fn(&[u8], &[u8], &[u8]) -> String;
 
 fn main() -> ExitCode {
     let arguments: Vec<String> = env::args().skip(1).collect();
-    let (program, folder, words, text): (_, _, _, Text) = match &arguments[..] {
-        [program, folder] => (program, folder, &arguments[2..], listing),
-        [program, folder, word] if word == "rival" => (program, folder, &arguments[2..], desk::rival),
+    let (program, folder, word) = match &arguments[..] {
+        [program, folder] => (Path::new(program), Path::new(folder), None),
+        [program, folder, word] => (Path::new(program), Path::new(folder), Some(word.as_str())),
         _ => {
-            eprintln!("usage: programs PROGRAM FOLDER [rival]");
+            eprintln!("usage: programs PROGRAM FOLDER [rival | BURST]");
             return ExitCode::FAILURE;
         }
     };
+    let (text, burst): (Text, _) = if word == Some("rival") { (desk::rival, None) } else { (listing, word) };
     let cases = cases();
-    let mut differences = 0;
+    let (mut followed, mut differences) = (0, 0);
     for (k, files) in cases.iter().enumerate() {
-        let expected = told(text, files);
-        match printed(Path::new(program), words, Path::new(folder), files) {
+        let (drifting, lines) = match burst.and_then(|_| drifting(files, k)) {
+            Some((drifting, lines)) => (Some(drifting), lines),
+            None => (None, String::new()),
+        };
+        followed += usize::from(!lines.is_empty());
+        let expected = told(text, files) + &lines;
+        let word = word.filter(|_| burst.is_none() || drifting.is_some());
+        match printed(program, word, folder, files, burst.zip(drifting)) {
             Ok(text) if text == expected => {}
             Ok(text) => {
                 differences += 1;
@@ -51,14 +64,23 @@ fn main() -> ExitCode {
         }
     }
     println!("{} folders compared, {differences} differences", cases.len());
-    if differences == 0 {
+    if burst.is_some() {
+        println!("{followed} of them with a burst behind the listing");
+    }
+    if differences == 0 && (burst.is_none() || followed > 0) {
         ExitCode::SUCCESS
     } else {
         ExitCode::FAILURE
     }
 }
 
-fn printed(program: &Path, words: &[String], folder: &Path, files: &Files) -> io::Result<String> {
+fn printed(
+    program: &Path,
+    word: Option<&str>,
+    folder: &Path,
+    files: &Files,
+    burst: Option<(&str, Vec<u8>)>,
+) -> io::Result<String> {
     for (name, contents) in NAMES.iter().zip(files) {
         let path = folder.join(name);
         match contents {
@@ -67,13 +89,55 @@ fn printed(program: &Path, words: &[String], folder: &Path, files: &Files) -> io
             None => {}
         }
     }
-    let output = Command::new(program).args(words).current_dir(folder).output()?;
+    if let Some((name, contents)) = burst {
+        fs::write(folder.join(name), contents)?;
+    }
+    let output = Command::new(program).args(word).current_dir(folder).output()?;
     Ok(String::from_utf8_lossy(&output.stdout).into_owned())
 }
 
 fn told(text: Text, files: &Files) -> String {
     let [settings, catalogue, frame] = files.clone().map(Option::unwrap_or_default);
     text(&settings, &catalogue, &frame)
+}
+
+/// A burst of the case's frame that drifts to the right, with a frame that is refused and some dark ones, so many that a
+/// guide is dropped in every third case; in some cases it has another length than whole frames. And the lines for it,
+/// unless a search takes too long.
+fn drifting(files: &Files, case: usize) -> Option<(Vec<u8>, String)> {
+    let [settings, catalogue, frame] = files.clone().map(Option::unwrap_or_default);
+    let mut burst = Vec::new();
+    for k in 0..8 {
+        match (k, case % 3) {
+            (2, _) => burst.extend(refused_at_the_end(&frame)),
+            (3, 0) | (3..8, 1) => burst.extend(vec![0; frame.len()]),
+            _ => burst.extend(shifted(&frame, 2 * k)),
+        }
+    }
+    match case % 16 {
+        5 => burst.truncate(burst.len().saturating_sub(1)),
+        6 => burst.truncate(burst.len().saturating_sub(2)),
+        7 if burst.len() < 60_000 => burst = burst.repeat(9),
+        _ => {}
+    }
+    let mut effort = Effort::up_to(MOST_STARS_TRIED);
+    let lines = burst_lines(&settings, &catalogue, &frame, &burst, &mut effort).ok()?;
+    Some((burst, lines))
+}
+
+/// The last sample is above 4,095.
+fn refused_at_the_end(frame: &[u8]) -> Vec<u8> {
+    let mut frame = frame.to_vec();
+    if let Some(high) = frame.iter_mut().rev().nth(1) {
+        *high = 255;
+    }
+    frame
+}
+
+/// The samples moved on by so many bytes; those that come in first are dark.
+fn shifted(frame: &[u8], bytes: usize) -> Vec<u8> {
+    let bytes = bytes.min(frame.len());
+    [&vec![0; bytes], &frame[..frame.len() - bytes]].concat()
 }
 
 /// The recorded chains that files can hold, and damage that only files can have.
