@@ -5,8 +5,9 @@
  * buffers and take the numbers apart, and decide nothing.
  *
  * Every call returns its refusal: number MN_ACCEPTED, or the lowest row of its table that applies, with a place. Its answer goes where the last pointer
- * points to, and is zeros where the call is refused. Buffers are pointer and length in elements; NULL with length 0 is fine. No call keeps a pointer, no
- * call allocates, none has a state of its own: calls may run at the same time as long as no buffer that one of them writes is lent to another.
+ * points to, and is zeros where the call is refused. Buffers are pointer and length in elements; NULL with length 0 is fine. A buffer that a call writes
+ * overlaps no other that it is lent. No call keeps a pointer, no call allocates, none has a state of its own: calls may run at the same time as long as no
+ * buffer that one of them writes is lent to another.
  *
  * A type is written with `struct` before its name, since some have the name of the call that gives them. */
 #ifndef MNEMATHOR_H
@@ -533,8 +534,8 @@ MN_FUNCTION struct mn_refusal mn_rival(const struct mn_direction *directions, si
                                        const struct mn_settings *settings, const uint16_t *ranking, size_t ranking_len, struct mn_rival *rival)
 {
     int64_t out[MN_NUMBERS];
-    mnemathor_rival((const int32_t *)directions, 3 * directions_count, catalogue, catalogue_len, settings->needed, settings->tolerance, ranking, ranking_len, out,
-                    MN_NUMBERS);
+    mnemathor_rival((const int32_t *)directions, 3 * directions_count, catalogue, catalogue_len, settings->needed, settings->tolerance, ranking, ranking_len,
+                    out, MN_NUMBERS);
     rival->exists = out[2];
     mn_take_stars(out + 3, rival->stars);
     return mn_take_refusal(out);
