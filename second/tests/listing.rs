@@ -1,8 +1,10 @@
 //! The program's listing: the whole one of the scope document, and what refusals print. The desk's rival on the same
-//! files.
+//! files, and the lines that the example in C prints for a burst.
 
 use second::desk;
+use second::flight::burst_lines;
 use second::listing::listing;
+use second::search::Effort;
 use second::sky::record;
 
 const LEFT: [i32; 3] = [-600_000_000, 0, 800_000_000];
@@ -44,6 +46,11 @@ impl Files {
 
     fn listing(&self) -> String {
         listing(&self.settings, &self.catalogue, &self.frame)
+    }
+
+    fn burst_lines(&self, burst: &[u8]) -> String {
+        burst_lines(&self.settings, &self.catalogue, &self.frame, burst, &mut Effort::unlimited())
+            .expect("an unlimited search ends with an answer")
     }
 
     fn rival(&self) -> String {
@@ -290,4 +297,28 @@ fn the_rival_is_refused_as_the_chain_is() {
     assert_eq!(refused(&|f| f.settings[7] = 2), "refused 9 0\n");
     assert_eq!(refused(&|f| f.settings[7] = 4), "refused 12 0\n");
     assert_eq!(refused(&|f| f.catalogue.truncate(40)), "refused 13 0\n");
+}
+
+#[test]
+fn a_burst_behind_the_listing() {
+    let files = Files::of_document();
+    // The same frame, the same two rows lower, a dark one, and one that is refused.
+    let lower = [vec![0; 2 * 2 * 160], files.frame[..files.frame.len() - 2 * 2 * 160].to_vec()].concat();
+    let dark = vec![0; files.frame.len()];
+    let mut damaged = files.clone();
+    damaged.set_sample(5, 4_096);
+    let burst = [files.frame.clone(), lower, dark, damaged.frame].concat();
+    assert_eq!(
+        files.burst_lines(&burst),
+        "0 0 0 11 8192 15360 0 22 32768 15360 0 33 20480 27648 0\n\
+         1 13 0 11 8192 15872 0 22 32768 15872 0 33 20480 28160 0\n\
+         2 12 0 11 8192 15872 1 22 32768 15872 1 33 20480 28160 1\n\
+         3 4 5 11 8192 15872 1 22 32768 15872 1 33 20480 28160 1\n"
+    );
+    // Half a sample too many counts as nothing, half a frame too many is refused, and so are 65 frames.
+    assert_eq!(files.burst_lines(&burst[1..]), "");
+    assert_eq!(files.burst_lines(&burst[160..]), "refused 2 0\n");
+    assert_eq!(files.burst_lines(&files.frame.repeat(65)), "refused 2 0\n");
+    // No identification, no guides.
+    assert_eq!(Files { frame: vec![0; files.frame.len()], ..files.clone() }.burst_lines(&burst), "");
 }
