@@ -1,0 +1,328 @@
+"""The subcommands of ./mnemathor that need Python: their words, their help, and what they print."""
+
+import argparse
+import json
+import sys
+from dataclasses import replace
+from pathlib import Path
+
+from . import configuration, frames, stars
+from .attitude import Pointing
+from .folder import SAMPLE, read_catalogue, read_settings, settings_bytes, write_file, write_folder
+from .refusals import Mistake, Refused
+
+STATUS_REFUSED, STATUS_MISTAKE = 1, 2
+
+
+def main(words):
+    """Runs a subcommand; the status is 0, 1 for a refusal of the library, 2 for any other mistake."""
+    arguments = parser().parse_args(words)
+    try:
+        arguments.run(arguments)
+    except Refused as refusal:
+        print(refusal, file=sys.stderr)
+        return STATUS_REFUSED
+    except Mistake as mistake:
+        print(f"mnemathor: {mistake}", file=sys.stderr)
+        return STATUS_MISTAKE
+    except KeyboardInterrupt:
+        print("mnemathor: stopped", file=sys.stderr)
+        return STATUS_MISTAKE
+    return 0
+
+
+def parser():
+    """All subcommands."""
+    top = argparse.ArgumentParser(prog="./mnemathor", description="The star camera on the ground.")
+    subcommands = top.add_subparsers(required=True, metavar="SUBCOMMAND")
+    for add in (_add_frame, _add_catalogue, _add_settings, _add_solve, _add_picture, _add_simulate, _add_trial):
+        add(subcommands)
+    return top
+
+
+class _Help(argparse.ArgumentDefaultsHelpFormatter):
+    """Tells the defaults, where there is one."""
+
+    def _get_help_string(self, action):
+        return super()._get_help_string(action) if action.default not in (None, False) else action.help
+
+
+def _add(subcommands, name, run, line, description):
+    """A subcommand with its line and its description."""
+    words = subcommands.add_parser(name, help=line, description=f"{line[0].upper()}{line[1:]}. {description}", formatter_class=_Help)
+    words.set_defaults(run=run)
+    return words
+
+
+# frame
+
+
+def _add_frame(subcommands):
+    words = _add(
+        subcommands,
+        "frame",
+        _frame,
+        "turns an image into frame.bin",
+        "FITS, PNG, TIFF, PGM or .npy. A value v becomes v x 4096 / FULL, rounded down. FULL is 2^bits of the file's unsigned type (256, "
+        "65536), 2^(bits - 1) of a signed one; floats need --full. Values below 0 become 0, values above 4,095 become 4,095; both are "
+        "counted and told. The frame's size goes into settings.bin, and with a new size the centre goes to the middle. solve and picture "
+        "take frames up to 1,024 x 1,024, the program itself up to 32,000 samples: --bin and --crop make frames smaller.",
+    )
+    words.add_argument("image", metavar="IMAGE", help="the image file")
+    words.add_argument("folder", metavar="FOLDER", help="where frame.bin and settings.bin go; made if it is not there")
+    words.add_argument("--bin", type=int, default=1, metavar="N", help="each sample the mean of N x N pixels; left over rows and columns are dropped")
+    words.add_argument("--crop", type=int, nargs=4, metavar=("LEFT", "TOP", "WIDTH", "HEIGHT"), help="a part of the image, in its pixels, before binning")
+    words.add_argument("--dark", metavar="IMAGE", help="an image to take off first, pixel by pixel")
+    words.add_argument("--full", type=float, help="the value that would be just too large for the camera, as 4096 for 12 bits in 16-bit words")
+    words.add_argument("--flip", action="store_true", help="top row last, for a readout that is upside down")
+    words.add_argument("--mirror", action="store_true", help="left column last, for a readout that is mirrored")
+    words.add_argument("--hdu", type=int, help="the unit of a FITS file; else the first with an image")
+
+
+def _frame(words):
+    how = {name: getattr(words, name) for name in ("dark", "crop", "full", "flip", "mirror", "hdu")}
+    frame, settings = frames.convert(words.image, words.folder, binning=words.bin, **how)
+    low, high = int(frame.samples.min()), int(frame.samples.max())
+    print(f"frame {settings.width} x {settings.height}, samples {low} to {high}, full scale {frame.full:g}")
+    for note in frame.notes:
+        print(note)
+    for count, what in ((frame.negative, "below 0, set to 0"), (frame.clipped, "above 4,095, set to 4,095"), (frame.blank, "without a value, set to 0")):
+        if count:
+            print(f"{count} pixels {what}")
+
+
+# catalogue
+
+
+def _add_catalogue(subcommands):
+    words = _add(
+        subcommands,
+        "catalogue",
+        _catalogue,
+        "turns a star list into catalogue.bin",
+        "CSV, ECSV, VOTable or FITS table with columns for identity, right ascension, declination and magnitude; the usual names are known. "
+        "A column's unit is kept to; without one numbers are degrees, and text is hours and degrees. Places are taken as they are: bring "
+        "them to the camera's date first if that matters. A catalogue has at most 512 stars.",
+    )
+    words.add_argument("stars", metavar="STARS", help="the star list")
+    words.add_argument("folder", metavar="FOLDER", help="where catalogue.bin goes; made if it is not there")
+    words.add_argument("--columns", nargs="+", metavar="NAME", help="the columns of identity, right ascension, declination, magnitude, in this order")
+    words.add_argument("--number", action="store_true", help="count the rows from 1 for identities (and name three columns only)")
+    words.add_argument("--limit", type=float, metavar="MAG", help="leave fainter stars out")
+    words.add_argument("--around", type=float, nargs=2, metavar=("RA", "DEC"), help="only stars near this place, degrees")
+    words.add_argument("--within", type=float, metavar="DEG", help="how near, with --around")
+    words.add_argument("--brightest", type=int, metavar="N", help="of what is left, only the N brightest")
+    words.add_argument("--apart", type=float, metavar="DEG", help="then leave both stars of every closer pair out, by the library's own cut")
+
+
+def _catalogue(words):
+    if (words.around is None) != (words.within is None):
+        raise Mistake("--around and --within go together")
+    which = {name: getattr(words, name) for name in ("columns", "number", "limit", "around", "within", "brightest", "apart")}
+    chosen = stars.convert(words.stars, words.folder, **which)
+    print(f"{len(chosen.records)} stars, from the columns {', '.join(chosen.columns.values())}")
+    for reason, count in chosen.left_out.items():
+        print(f"{count} left out: {reason}")
+
+
+# settings
+
+
+def _add_settings(subcommands):
+    words = _add(
+        subcommands,
+        "settings",
+        _settings,
+        "turns a TOML file into settings.bin, or back",
+        "Which of the two is the TOML file is told by its ending, .toml. It has threshold, needed, tolerance and lens, and may have width, "
+        "height and centre (else those of the folder, and the frame's middle). tolerance is a number, or { angle = '60 arcsec', separation "
+        "= '10 deg' }, which is 10^18 x |cos(separation + angle) - cos(separation)|. lens is { pixels = 64.0 }, or { millimetres = 12.0, "
+        "micrometres = 7.5 } for focal length and pixel pitch. centre is [column, row] in pixels.",
+    )
+    words.add_argument("source", metavar="FILE.toml", help="the TOML file; or the folder to read")
+    words.add_argument("target", metavar="FOLDER", help="where settings.bin goes; or the TOML file to write")
+
+
+def _settings(words):
+    if Path(words.source).suffix == ".toml":
+        settings = configuration.convert(words.source, words.target)
+    elif Path(words.target).suffix == ".toml":
+        settings = configuration.convert_back(words.source, words.target)
+    else:
+        raise Mistake("one of the two must end in .toml")
+    print(configuration.toml_of(settings), end="")
+
+
+# solve
+
+
+def _add_solve(subcommands):
+    words = _add(
+        subcommands,
+        "solve",
+        _solve,
+        "says where the camera points, with every named star",
+        "Runs the chain and the rival call. Right ascension and declination are those of the camera's axis, which goes through the "
+        "settings' centre; roll is the position angle of the frame's upward direction, from north through east; all in degrees, in the "
+        "catalogue's own coordinates. A residual is the angle from a star's measured direction to where the matrix puts it; the attitude "
+        "rests on the first two named stars, so the first has none.",
+    )
+    words.add_argument("folder", metavar="FOLDER", help="has settings.bin, catalogue.bin and frame.bin")
+    words.add_argument("--json", action="store_true", help="print JSON")
+
+
+def _solve(words):
+    from . import solving
+
+    settings, samples, catalogue = solving.read_folder(words.folder)
+    try:
+        solution = solving.solve(settings, samples, catalogue)
+    except Refused as refusal:
+        if refusal.number == 13 and solving.mirrored_fits(settings, samples, catalogue):
+            raise refusal.with_note("in a mirror it would fit: is the readout mirrored? frame has --flip and --mirror") from refusal
+        raise
+    if words.json:
+        print(json.dumps(solution.as_dict(), indent=1))
+    else:
+        _tell(solution)
+
+
+def _tell(solution):
+    where = solution.pointing
+    print(f"right ascension {where.ra:.5f}  declination {where.dec:+.5f}  roll {where.roll:.4f}  (degrees)")
+    print(f"measured {solution.measured} edge {solution.edge} lone {solution.lone}")
+    print(f"{'':>2} {'column':>9} {'row':>9} {'brightness':>10} {'identity':>10} {'magnitude':>9} {'residual':>9}")
+    for star in solution.stars:
+        name = [f"{star.identity:>10} {star.magnitude:>9.3f} {star.residual:>8.1f}″" if star.identity is not None else f"{'-':>10}"]
+        print(f"{star.number:>2} {star.column:>9.3f} {star.row:>9.3f} {star.brightness:>10}", *name)
+    if solution.rival is not None:
+        other = ", ".join(f"star {number} as {identity}" for number, identity in solution.rival.items())
+        print(f"WARNING: another identification fits as well; it has {other}")
+
+
+# picture
+
+
+def _add_picture(subcommands):
+    words = _add(
+        subcommands,
+        "picture",
+        _picture,
+        "draws the frame with what was found in it",
+        "Listed stars are ringed, with number and identity; edge and lone pixels and stars beyond the first eight are marked by kind; "
+        "catalogue stars stand where the matrix puts them. A frame without a solution is drawn too, with the refusal above it.",
+    )
+    words.add_argument("folder", metavar="FOLDER", help="has settings.bin, catalogue.bin and frame.bin")
+    words.add_argument("out", metavar="OUT.png", help="the picture")
+    words.add_argument("--pixel", type=int, nargs=2, metavar=("ROW", "COLUMN"), help="add this pixel's window, enlarged, and the reason in words")
+    words.add_argument("--dpi", type=int, default=100, help="dots an inch; the frame is 7.5 inches wide")
+
+
+def _picture(words):
+    from . import pictures, solving
+
+    if words.pixel and min(words.pixel) < 0:
+        raise Mistake("row and column are counted from 0")
+    figure = pictures.picture(*solving.read_folder(words.folder), pixel=words.pixel, dpi=words.dpi)
+    write_file(words.out, pictures.png(figure))
+    print(f"{words.out}: {figure.axes[0].get_title()}")
+
+
+# simulate
+
+
+def _add_weather(words, **usual):
+    """What can be wrong with a simulated frame."""
+    from .simulation import Weather
+
+    plain = replace(Weather(), **usual)
+    words.add_argument("--seed", type=int, default=0, help="the same seed gives the same frames")
+    words.add_argument("--spread", type=float, default=plain.spread, metavar="PIXELS", help="width (sigma) of a star's point spread")
+    words.add_argument("--background", type=float, default=plain.background, metavar="LEVEL", help="the sky's samples")
+    words.add_argument("--noise", type=float, default=plain.noise, metavar="LEVEL", help="their noise (sigma)")
+    words.add_argument("--hot", type=int, default=plain.hot, metavar="N", help="hot pixels")
+    words.add_argument("--false", type=int, default=plain.false, metavar="N", help="stars that the catalogue does not have, as bright as some of it")
+    words.add_argument("--jitter", type=float, default=plain.jitter, metavar="PIXELS", help="by how much (sigma) each star is moved")
+    words.add_argument("--mirror", action="store_true", help="columns the other way round, as by a mirrored readout")
+    words.add_argument("--faintest", type=float, metavar="MAG", help="a star of this magnitude reaches twice the threshold; else the catalogue's faintest")
+    words.add_argument("--least", type=int, default=plain.least, metavar="N", help="draw attitudes anew that have fewer catalogue stars in the frame")
+
+
+def _weather(words):
+    from .simulation import Weather
+
+    return Weather(*(getattr(words, name) for name in ("spread", "background", "noise", "hot", "false", "jitter", "mirror", "faintest", "least")))
+
+
+def _add_simulate(subcommands):
+    words = _add(
+        subcommands,
+        "simulate",
+        _simulate,
+        "makes a frame of the folder's catalogue",
+        "The frame is seen by the folder's camera, at a given pointing or at a random attitude. frame.bin is written, and truth.json with "
+        "the attitude and everything that was put into the frame.",
+    )
+    words.add_argument("folder", metavar="FOLDER", help="has settings.bin and catalogue.bin; frame.bin and truth.json go there")
+    words.add_argument("--pointing", type=float, nargs=3, metavar=("RA", "DEC", "ROLL"), help="degrees, as solve prints them; else random")
+    _add_weather(words)
+
+
+def _simulate(words):
+    from . import library, simulation
+
+    settings, catalogue = read_settings(words.folder), read_catalogue(words.folder)
+    configuration.check(settings)
+    library.check_catalogue(catalogue)
+    pointing = None if words.pointing is None else Pointing(*words.pointing)
+    made = simulation.simulate(settings, catalogue, words.seed, _weather(words), pointing)
+    truth = json.dumps(made.truth(), indent=1).encode()
+    write_folder(words.folder, {"frame.bin": made.samples.astype(SAMPLE).tobytes(), "truth.json": truth})
+    where = made.pointing
+    print(f"right ascension {where.ra:.5f}  declination {where.dec:+.5f}  roll {where.roll:.4f}  (degrees)")
+    print(f"{len(made.stars)} catalogue stars, {len(made.false)} false stars, {len(made.hot)} hot pixels")
+
+
+# trial
+
+
+def _add_trial(subcommands):
+    words = _add(
+        subcommands,
+        "trial",
+        _trial,
+        "finds tolerance and needed count by simulated frames",
+        "Simulates frames with the folder's lens, threshold and catalogue, solves each for every pair of the grid, and prints how many were "
+        "accepted, and of these how many had a wrong name (its star was not put within 3 pixels of the measured position) or a wrong "
+        "pointing (the axis is off by more than --off). Where none was seen stands the 95 % upper bound, exact binomial: 1 - 0.05^(1/n). "
+        "Recommended is the pair that accepts most with no wrong name; of equal ones the larger needed count, then the smaller tolerance.",
+    )
+    words.add_argument("folder", metavar="FOLDER", help="has settings.bin and catalogue.bin")
+    words.add_argument("--frames", type=int, default=200, metavar="N", help="how many")
+    words.add_argument("--tolerances", type=int, nargs="+", metavar="T", help="else 1/16, 1/8, 1/4, 1/2 and 1 pixel at the separation of the shorter side")
+    words.add_argument("--needed", type=int, nargs="+", default=[3, 4, 5, 6], metavar="N", help="needed counts")
+    words.add_argument("--off", type=float, default=1.0, metavar="PIXELS", help="an axis farther off than this is a wrong pointing")
+    words.add_argument("--processes", type=int, metavar="N", help="else as many as there are processors")
+    words.add_argument("--plot", metavar="OUT.png", help="draw the grid")
+    words.add_argument("--json", action="store_true", help="print JSON")
+    words.add_argument("--set", action="store_true", help="write the recommended pair into the folder's settings")
+    _add_weather(words, hot=2, false=1, jitter=0.05)
+
+
+def _trial(words):
+    from . import trials
+
+    settings, catalogue = read_settings(words.folder), read_catalogue(words.folder)
+    tolerances = words.tolerances or trials.default_tolerances(settings)
+    rest = {"seed": words.seed, "off": words.off, "processes": words.processes}
+    made = trials.trial(settings, catalogue, words.frames, tolerances, words.needed, _weather(words), **rest)
+    if words.plot:
+        from . import pictures
+
+        write_file(words.plot, pictures.png(pictures.trial_picture(made, settings)))
+    print(json.dumps(made.as_dict(), indent=1) if words.json else trials.table(made, settings))
+    best = made.recommended
+    if words.set and best is None:
+        raise Mistake("no pair can be recommended; the settings stay")
+    if words.set:
+        write_folder(words.folder, {"settings.bin": settings_bytes(replace(settings, tolerance=best.tolerance, needed=best.needed))})

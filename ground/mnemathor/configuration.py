@@ -1,0 +1,154 @@
+"""Settings as a TOML file that people write, and back."""
+
+import tomllib
+from dataclasses import replace
+from pathlib import Path
+
+import numpy as np
+from astropy import units as u
+from astropy.coordinates import Angle
+
+from . import library
+from .folder import PIXEL, UNIT, Settings, read_settings, settings_bytes, settings_or_none, write_file, write_folder
+from .refusals import Mistake, Refused
+
+KEYS = {"width", "height", "threshold", "needed", "tolerance", "centre", "lens"}
+
+
+def tolerance_of(angle, separation):
+    """The tolerance for an angle at a separation: 10^18 x |cos(separation + angle) - cos(separation)|, rounded.
+
+    Two directions that far apart have the dot product 10^18 x cos(separation); it changes by this when they are that
+    angle farther apart.
+    """
+    middle, half = (separation + angle / 2).to_value(u.rad), (angle / 2).to_value(u.rad)
+    # The difference of the two cosines as a product, which loses nothing for small angles.
+    return int(round(abs(2 * np.sin(middle) * np.sin(half)) * float(UNIT) ** 2))
+
+
+def angle_of(tolerance, separation):
+    """The angle that a tolerance allows two directions of that separation to be farther apart."""
+    cosine = np.cos(separation.to_value(u.rad)) - tolerance / float(UNIT) ** 2
+    return Angle(np.arccos(np.clip(cosine, -1, 1)) * u.rad - separation).to(u.arcsec)
+
+
+def read_toml(path, before=Settings()):
+    """The settings in a TOML file; size and centre may be left out, and are then those of `before`."""
+    try:
+        told = tomllib.loads(Path(path).read_text())
+    except (OSError, UnicodeDecodeError, tomllib.TOMLDecodeError) as error:
+        raise Mistake(f"{path} cannot be read: {error}") from error
+    strange = set(told) - KEYS
+    if strange:
+        raise Mistake(f"{path}: unknown {', '.join(sorted(strange))}; known are {', '.join(sorted(KEYS))}")
+    missing = {"threshold", "needed", "tolerance", "lens"} - set(told)
+    if missing:
+        raise Mistake(f"{path}: {', '.join(sorted(missing))} missing")
+    settings = before.of_size(_whole(told, "width", before.width), _whole(told, "height", before.height))
+    settings = _with_centre(settings, told.get("centre"))
+    return replace(
+        settings,
+        threshold=_whole(told, "threshold"),
+        needed=_whole(told, "needed"),
+        tolerance=_tolerance(told["tolerance"]),
+        focal=_focal(told["lens"]),
+    )
+
+
+def toml_of(settings):
+    """The same settings as a TOML file; the lens in its pixel form, exact as settings.bin has it."""
+    meanings = [f"{angle_of(settings.tolerance, degrees * u.deg).value:.1f} arc seconds at {degrees} degrees" for degrees in (2, 5, 10)]
+    return "\n".join(
+        [
+            f"width = {settings.width}",
+            f"height = {settings.height}",
+            f"threshold = {settings.threshold}",
+            f"needed = {settings.needed}",
+            f"tolerance = {settings.tolerance}  # {', '.join(meanings)}",
+            f"centre = [{settings.cx / PIXEL!r}, {settings.cy / PIXEL!r}]  # column and row, in pixels",
+            "",
+            "[lens]",
+            f"pixels = {settings.focal / PIXEL!r}",
+            "",
+        ]
+    )
+
+
+def check(settings):
+    """Lets the library judge the settings, with a dark frame of their size and a catalogue of one star.
+
+    Such a call is refused in the end, for want of stars; any earlier refusal is about the settings.
+    """
+    try:
+        library.list_stars(np.zeros(0, np.uint16), settings)
+    except Refused as refusal:
+        if refusal.number != 2:
+            raise
+    dark = np.zeros((settings.height, settings.width), np.uint16)
+    try:
+        library.chain(dark, settings, library.one_star())
+    except Refused as refusal:
+        if refusal.number != 12:
+            raise
+
+
+def convert(path, folder):
+    """Writes a TOML file's settings into a folder; hands them back."""
+    settings = read_toml(path, settings_or_none(folder))
+    contents = settings_bytes(settings)
+    check(settings)
+    write_folder(folder, {"settings.bin": contents})
+    return settings
+
+
+def convert_back(folder, path):
+    """Writes a folder's settings as a TOML file; hands them back."""
+    settings = read_settings(folder)
+    write_file(path, toml_of(settings).encode())
+    return settings
+
+
+def _whole(told, key, otherwise=None):
+    number = told.get(key, otherwise)
+    if not isinstance(number, int) or isinstance(number, bool):
+        raise Mistake(f"{key} must be a whole number, not {number!r}")
+    return number
+
+
+def _with_centre(settings, centre):
+    """The centre as column and row in pixels, to the nearest 1/256."""
+    if centre is None:
+        return settings
+    if not isinstance(centre, list) or len(centre) != 2 or not all(_is_number(part) for part in centre):
+        raise Mistake(f"centre must be column and row in pixels, [79.5, 59.5], not {centre!r}")
+    return replace(settings, cx=round(centre[0] * PIXEL), cy=round(centre[1] * PIXEL))
+
+
+def _tolerance(told):
+    """A whole number, or a table with an angle and a separation, such as "40 arcsec" and "10 deg"."""
+    if isinstance(told, dict):
+        if set(told) != {"angle", "separation"}:
+            raise Mistake('tolerance wants angle and separation, as { angle = "40 arcsec", separation = "10 deg" }')
+        return tolerance_of(*(_angle(told[key], key) for key in ("angle", "separation")))
+    return _whole({"tolerance": told}, "tolerance")
+
+
+def _angle(told, key):
+    try:
+        return Angle(told)
+    except (ValueError, TypeError, u.UnitsError) as error:
+        raise Mistake(f'tolerance: {key} must be an angle with its unit, as "40 arcsec", not {told!r}') from error
+
+
+def _focal(told):
+    """The whole focal length, from either form of the lens plate, by the library."""
+    if isinstance(told, dict) and all(_is_number(part) for part in told.values()):
+        if set(told) == {"pixels"}:
+            return library.focal_of_pixels(told["pixels"])
+        if set(told) == {"millimetres", "micrometres"}:
+            return library.focal_of_millimetres(told["millimetres"], told["micrometres"])
+    raise Mistake("lens wants { pixels = 64.0 }, or { millimetres = 12.0, micrometres = 7.5 } for focal length and pixel pitch")
+
+
+def _is_number(part):
+    return isinstance(part, (int, float)) and not isinstance(part, bool)

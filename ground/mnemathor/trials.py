@@ -1,0 +1,239 @@
+"""Settings chosen by trial: many simulated frames, solved for every tolerance and needed count of a grid."""
+
+import multiprocessing
+from dataclasses import asdict, dataclass, replace
+
+import numpy as np
+from astropy import units as u
+from tqdm import tqdm
+
+from . import library
+from .attitude import angle_between, turn_between, vectors
+from .configuration import angle_of, tolerance_of
+from .folder import PIXEL, STAR, UNIT
+from .refusals import Mistake, Refused
+from .simulation import simulate
+from .structures import INDEX_RECORD
+
+# A name is right if its star was put within this many pixels of the measured position: half a window.
+NEAR = 3.0
+# The grid's tolerances, as parts of a pixel at the separation of the frame's shorter side, and its needed counts.
+PARTS = (1 / 16, 1 / 8, 1 / 4, 1 / 2, 1)
+NEEDED = (3, 4, 5, 6)
+
+
+@dataclass(frozen=True)
+class Outcome:
+    """One frame under one pair of settings; errors in arc seconds, None where it was refused."""
+
+    refusal: int = 0
+    wrong_names: int = 0
+    axis_error: float | None = None
+    turn_error: float | None = None
+
+
+@dataclass(frozen=True)
+class Cell:
+    """All frames under one pair of settings; the errors are those of frames without a wrong name."""
+
+    tolerance: int
+    needed: int
+    frames: int
+    accepted: int
+    wrong_names: int
+    wrong_pointing: int
+    refusals: dict
+    axis_median: float | None
+    axis_95: float | None
+    turn_median: float | None
+    turn_95: float | None
+
+    @property
+    def bound(self):
+        """The 95 % upper bound of a rate of which none was seen among the accepted frames; None where none was accepted."""
+        return none_seen(self.accepted)
+
+
+@dataclass(frozen=True)
+class Trial:
+    """The whole grid, and how many random attitudes had too few stars to be tried."""
+
+    cells: tuple
+    frames: int
+    seed: int
+    off: float
+    drawn: int
+
+    @property
+    def recommended(self):
+        """The pair that accepts most with no wrong name; of equal ones the larger needed count, then the smaller tolerance."""
+        clean = [cell for cell in self.cells if cell.accepted and not cell.wrong_names]
+        return max(clean, key=lambda cell: (cell.accepted, cell.needed, -cell.tolerance), default=None)
+
+    def as_dict(self):
+        """The trial in plain numbers, for JSON."""
+        best = self.recommended
+        pair = None if best is None else {"tolerance": best.tolerance, "needed": best.needed}
+        cells = [{**asdict(cell), "bound": cell.bound} for cell in self.cells]
+        return {"frames": self.frames, "seed": self.seed, "off": self.off, "drawn": self.drawn, "recommended": pair, "cells": cells}
+
+
+def none_seen(tries):
+    """The largest rate at which none of so many tries fails with a chance of 5 %: 1 - 0.05^(1 / tries), about 3 / tries."""
+    return 1 - 0.05 ** (1 / tries) if tries else None
+
+
+def pixel_angle(settings):
+    """The angle of one pixel in the frame's middle."""
+    return np.arctan(PIXEL / settings.focal) * u.rad
+
+
+def shorter_side(settings):
+    """The angle of the frame's shorter side."""
+    return 2 * np.arctan(min(settings.width, settings.height) * PIXEL / (2 * settings.focal)) * u.rad
+
+
+def default_tolerances(settings):
+    """The grid's tolerances for a camera."""
+    return [tolerance_of(part * pixel_angle(settings), shorter_side(settings)) for part in PARTS]
+
+
+def trial(settings, catalogue, frames, tolerances, needed, weather, seed=0, off=1.0, processes=None, quiet=False):
+    """Simulates the frames and tries every pair of settings on each; `off` is the axis error, in pixels, from which a pointing is wrong."""
+    pairs = [replace(settings, tolerance=int(t), needed=int(n)) for t in tolerances for n in needed]
+    if frames < 1 or not pairs:
+        raise Mistake("a trial wants at least one frame, one tolerance and one needed count")
+    if settings.focal == 0:
+        raise Mistake("the folder's settings have no lens yet")
+    for pair in pairs:
+        _refuse_early(pair, catalogue)
+    job = (settings, catalogue, _index(settings, catalogue), pairs, weather, seed)
+    results = list(_run(job, frames, processes, quiet))
+    limit = (off * pixel_angle(settings)).to_value(u.arcsec)
+    cells = tuple(_cell(pair, [outcomes[k] for outcomes, _ in results], limit) for k, pair in enumerate(pairs))
+    return Trial(cells, frames, seed, off, sum(draws for _, draws in results))
+
+
+def _refuse_early(settings, catalogue):
+    """Settings that the library would refuse for every frame are refused before the first."""
+    try:
+        library.chain(np.zeros((settings.height, settings.width), np.uint16), settings, catalogue)
+    except Refused as refusal:
+        if refusal.number != 12:
+            raise
+
+
+def _index(settings, catalogue):
+    """The catalogue's index for the pairs that the frame can hold, and its floor: answers stay, and come sooner."""
+    diagonal = 2 * np.arctan(np.hypot(settings.width, settings.height) * PIXEL / (2 * settings.focal))
+    floor = int(float(UNIT) ** 2 * np.cos(min(1.1 * diagonal, np.pi)))
+    room = np.zeros(INDEX_RECORD * len(catalogue) * (len(catalogue) - 1) // 2, np.uint8)
+    count = library.index(catalogue, floor, room)
+    return room[: INDEX_RECORD * count], floor
+
+
+_job = None
+
+
+def _start(job):
+    """Keeps the job in a process of the pool."""
+    global _job
+    _job = job
+
+
+def _run(job, frames, processes, quiet):
+    """The outcomes of every frame, in order, from several processes."""
+    with multiprocessing.Pool(processes, _start, (job,)) as pool:
+        results = pool.imap(_one, range(frames), chunksize=4)
+        yield from tqdm(results, total=frames, unit="frame", disable=True if quiet else None)
+
+
+def _one(number):
+    """One frame: its outcomes for all pairs, and how many attitudes were drawn for it. Its seed is the trial's with its number."""
+    settings, catalogue, (pairs_index, floor), pairs, weather, seed = _job
+    frame = simulate(settings, catalogue, (seed, number), weather)
+    return [judge(frame, pair, catalogue, pairs_index, floor) for pair in pairs], frame.draws
+
+
+def judge(frame, settings, catalogue, pairs_index, floor):
+    """The outcome of one simulated frame under one pair of settings."""
+    try:
+        tracked = library.chain_by_index(frame.samples, settings, catalogue, pairs_index, floor)
+    except Refused as refusal:
+        return Outcome(refusal.number)
+    rows = library.cosines(tracked.matrix)
+    wrong = wrong_names(tracked, frame, catalogue)
+    return Outcome(0, wrong, float(angle_between(rows[2], frame.matrix[2])), float(turn_between(rows, frame.matrix)))
+
+
+def wrong_names(tracked, frame, catalogue):
+    """How many listed stars have a name whose star was not put near the measured position."""
+    places = {star.identity: (star.column, star.row) for star in frame.stars}
+    named = [(s, int(catalogue["identity"][k])) for s, k in zip(tracked.report.stars, tracked.assignment) if k is not None]
+    return sum(not _near(places.get(name), star) for star, name in named)
+
+
+def _near(place, star):
+    return place is not None and np.hypot(place[0] - star.x / PIXEL, place[1] - star.y / PIXEL) <= NEAR
+
+
+def _cell(settings, outcomes, limit):
+    """The sums over all frames for one pair."""
+    accepted = [outcome for outcome in outcomes if not outcome.refusal]
+    refusals = sorted(outcome.refusal for outcome in outcomes if outcome.refusal)
+    right = [outcome for outcome in accepted if not outcome.wrong_names]
+    axis, turn = ([getattr(outcome, name) for outcome in right] for name in ("axis_error", "turn_error"))
+    return Cell(
+        settings.tolerance,
+        settings.needed,
+        len(outcomes),
+        len(accepted),
+        sum(outcome.wrong_names > 0 for outcome in accepted),
+        sum(outcome.axis_error > limit for outcome in accepted),
+        {number: refusals.count(number) for number in sorted(set(refusals))},
+        *_middle_and_most(axis),
+        *_middle_and_most(turn),
+    )
+
+
+def _middle_and_most(errors):
+    """The median and the value that 95 % do not exceed."""
+    return tuple(map(float, np.percentile(errors, [50, 95]))) if errors else (None, None)
+
+
+def table(trial, settings):
+    """A trial as lines to read."""
+    side = shorter_side(settings)
+    lines = [
+        f"{trial.frames} frames, seed {trial.seed}; {trial.drawn - trial.frames} more attitudes had too few stars",
+        f"{'tolerance':>17} {f'at {side.to_value(u.deg):.1f}°':>9} {'needed':>6} {'accepted':>8} {'wrong names':>16} {'wrong pointing':>16}"
+        f" {'axis error':>14} {'turn error':>14}",
+    ]
+    for cell in trial.cells:
+        angle = f"{angle_of(cell.tolerance, side).value:.1f}″"
+        counts = f"{_counted(cell.wrong_names, cell.bound):>16} {_counted(cell.wrong_pointing, cell.bound):>16}"
+        errors = f"{_errors(cell.axis_median, cell.axis_95):>14} {_errors(cell.turn_median, cell.turn_95):>14}"
+        lines.append(f"{cell.tolerance:>17} {angle:>9} {cell.needed:>6} {100 * cell.accepted / cell.frames:>7.1f}% {counts} {errors}")
+    return "\n".join([*lines, _advice(trial)])
+
+
+def _counted(count, bound):
+    """How often something was seen among the accepted frames, or the bound where it was not."""
+    if bound is None:
+        return "-"
+    return str(count) if count else f"0 (< {100 * bound:.2f} %)"
+
+
+def _errors(median, most):
+    """Median and 95 % in arc seconds."""
+    return "-" if median is None else f"{median:.0f}″, {most:.0f}″"
+
+
+def _advice(trial):
+    best = trial.recommended
+    if best is None:
+        return "no pair can be recommended: each has wrong names, or accepts nothing"
+    return (
+        f"recommended: tolerance {best.tolerance}, needed {best.needed}; accepts {best.accepted} of {best.frames} frames, no wrong name seen, "
+        f"so fewer than {100 * best.bound:.2f} % of the accepted (95 %, exact binomial)"
+    )
