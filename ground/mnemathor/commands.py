@@ -44,7 +44,8 @@ class _Help(argparse.ArgumentDefaultsHelpFormatter):
     """Tells the defaults, where there is one."""
 
     def _get_help_string(self, action):
-        return super()._get_help_string(action) if action.default not in (None, False) else action.help
+        told = not (action.default is None or action.default is False)
+        return super()._get_help_string(action) if told else action.help
 
 
 def _add(subcommands, name, run, line, description):
@@ -101,7 +102,7 @@ def _add_catalogue(subcommands):
         _catalogue,
         "turns a star list into catalogue.bin",
         "CSV, ECSV, VOTable or FITS table with columns for identity, right ascension, declination and magnitude; the usual names are known. "
-        "A column's unit is kept to; without one numbers are degrees, and text is hours and degrees. Places are taken as they are: bring "
+        "Text is hours and degrees; numbers have their column's unit, else they are degrees. Places are taken as they are: bring "
         "them to the camera's date first if that matters. A catalogue has at most 512 stars.",
     )
     words.add_argument("stars", metavar="STARS", help="the star list")

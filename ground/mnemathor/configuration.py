@@ -96,7 +96,11 @@ def convert(path, folder):
     """Writes a TOML file's settings into a folder; hands them back."""
     settings = read_toml(path, settings_or_none(folder))
     contents = settings_bytes(settings)
-    check(settings)
+    try:
+        check(settings)
+    except Refused as refusal:
+        size = f"{settings.width} x {settings.height}; the file may name them, else they are the folder's frame's"
+        raise refusal.with_note(size if refusal.number == 1 else str(path)) from refusal
     write_folder(folder, {"settings.bin": contents})
     return settings
 

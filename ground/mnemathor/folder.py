@@ -21,6 +21,8 @@ SAMPLE = np.dtype(">u2")
 PIXEL = 256
 UNIT = 10**9
 MAGNITUDE = 1000
+# The camera has 12 bits a sample.
+LEVELS = 4096
 
 
 @dataclass(frozen=True)

@@ -6,12 +6,9 @@ import numpy as np
 from astropy.nddata import block_reduce
 
 from . import library
-from .folder import SAMPLE, settings_bytes, settings_or_none, write_folder
+from .folder import LEVELS, SAMPLE, settings_bytes, settings_or_none, write_folder
 from .images import read_image
-from .refusals import Mistake
-
-# The camera has 12 bits a sample.
-LEVELS = 4096
+from .refusals import Mistake, Refused
 
 
 @dataclass(frozen=True)
@@ -52,7 +49,10 @@ def convert(path, folder, **how):
     height, width = frame.samples.shape
     settings = settings_or_none(folder).of_size(width, height)
     # Whether the frame can be used at all is the library's to say; the highest threshold is the cheapest to ask with.
-    library.list_stars(frame.samples, library.with_size(frame.samples, LEVELS - 1))
+    try:
+        library.list_stars(frame.samples, library.with_size(frame.samples, LEVELS - 1))
+    except Refused as refusal:
+        raise refusal.with_note(f"the frame would be {width} x {height}; --bin and --crop make it smaller") from refusal
     write_folder(folder, {"frame.bin": frame.samples.astype(SAMPLE).tobytes(), "settings.bin": settings_bytes(settings)})
     return frame, settings
 

@@ -1,10 +1,12 @@
 """Images from files: FITS by astropy, .npy by numpy, all others (PNG, TIFF, PGM) by Pillow."""
 
-from dataclasses import dataclass
+import warnings
+from dataclasses import dataclass, replace
 from pathlib import Path
 
 import numpy as np
 from astropy.io import fits
+from astropy.utils.exceptions import AstropyWarning
 from PIL import Image as Pillow
 
 from .refusals import Mistake
@@ -28,7 +30,7 @@ def read_image(path, hdu=None):
         raise Mistake(f"{path} is not a file")
     try:
         if _is_fits(path):
-            return _read_fits(path, hdu)
+            return _with_warnings(_read_fits, path, hdu)
         if path.suffix.lower() == ".npy":
             return _plane(np.load(path, allow_pickle=False), path)
         return _read_picture(path)
@@ -39,6 +41,14 @@ def read_image(path, hdu=None):
 def full_scale(kind):
     """One more than the largest value of a whole-number type; None for floats, whose largest says nothing."""
     return int(np.iinfo(kind).max) + 1 if np.issubdtype(kind, np.integer) else None
+
+
+def _with_warnings(read, *arguments):
+    """Reads an image; what astropy warns of goes into its notes."""
+    with warnings.catch_warnings(record=True) as told:
+        warnings.simplefilter("always", AstropyWarning)
+        image = read(*arguments)
+    return replace(image, notes=image.notes + tuple(f"astropy warns: {str(each.message).split(chr(10))[0]}" for each in told))
 
 
 def _is_fits(path):
@@ -57,8 +67,8 @@ def _read_fits(path, hdu):
         header = units[number].header
         image = _plane(np.asarray(units[number].data), path)
     if str(header.get("ROWORDER", "")).strip().upper() == "TOP-DOWN":
-        return Image(image.values, image.full, image.notes + ("rows from the top, as ROWORDER says",))
-    return Image(image.values[::-1], image.full, image.notes + ("FITS rows go from the bottom up",))
+        return replace(image, notes=("rows from the top, as ROWORDER says",))
+    return replace(image, values=image.values[::-1], notes=("FITS rows go from the bottom up",))
 
 
 def _read_picture(path):
@@ -76,7 +86,7 @@ def _read_picture(path):
     if values.ndim == 3:
         return Image(values.mean(axis=2), full_scale(values.dtype), ("the mean of the colours",))
     image = _plane(values, path)
-    return Image(image.values, 65536, image.notes) if wide else image
+    return replace(image, full=65536) if wide else image
 
 
 def _plane(values, path):

@@ -133,7 +133,9 @@ def _lent(array):
 def _bytes(records):
     """Records or bytes as an array of bytes on the same memory."""
     array = np.frombuffer(records, np.uint8) if isinstance(records, (bytes, bytearray, memoryview)) else records
-    return _lent(array if array.dtype == np.uint8 else array.view(np.uint8))
+    if array.dtype not in (np.uint8, STAR):
+        raise TypeError(f"records must be bytes or catalogue records, high byte first, not {array.dtype}")
+    return _lent(array.view(np.uint8))
 
 
 def _rows(directions):

@@ -139,9 +139,14 @@ def _try_to_solve(settings, samples, catalogue):
 def _figure(settings, with_window, dpi):
     """A figure for a frame of that shape, with a place for a window where one is asked for."""
     wide = 7.5
-    tall = min(10.0, max(3.0, 0.92 * wide * settings.height / settings.width)) + 1.1
+    tall = min(10.0, max(3.0, 0.92 * wide * settings.height / settings.width)) + 1.5
     figure = Figure(figsize=(wide + (3.6 if with_window else 0), tall), dpi=dpi, layout="constrained")
-    figure.subplots(1, 2, width_ratios=[2.1, 1]) if with_window else figure.subplots()
+    if with_window:
+        figure.subplots(1, 2, width_ratios=[2.1, 1])
+    else:
+        figure.subplots()
+    for axes in figure.axes:
+        axes.set_anchor("N")
     return figure
 
 
@@ -192,7 +197,7 @@ def _mark(axes, marks, stars):
     kinds = {"edge": (marks["edge"], EDGE, "s"), "lone": (marks["lone"], LONE, "x"), "unlisted": (unlisted, UNLISTED, "^")}
     for verdicts, colour, marker in kinds.values():
         for verdict in verdicts:
-            axes.plot(verdict.column, verdict.row, marker=marker, color=colour, markersize=7, fillstyle="none", linestyle="")
+            axes.plot(verdict.column, verdict.row, marker=marker, color=colour, markersize=8, fillstyle="none", linestyle="")
     return Counter({kind: len(verdicts) for kind, (verdicts, _, _) in kinds.items()})
 
 

@@ -4,9 +4,10 @@ from dataclasses import asdict, dataclass, field
 
 import numpy as np
 from astropy.modeling.functional_models import Gaussian2D
+from astropy.nddata import NoOverlapError, overlap_slices
 
 from .attitude import Pointing, in_frame, matrix_of, pointing_of, random_matrix, vectors
-from .folder import MAGNITUDE
+from .folder import LEVELS, MAGNITUDE
 from .refusals import Mistake
 
 TRIES = 20000
@@ -78,8 +79,8 @@ def simulate(settings, catalogue, seed, weather=Weather(), pointing=None):
     stars = _put_stars(frame, random, catalogue, matrix, settings, weather, peak)
     false = _put_false(frame, random, catalogue, settings, weather, peak)
     frame += random.normal(0, weather.noise, frame.shape)
-    hot = _put_hot(frame, random, weather)
-    samples = np.clip(np.rint(frame), 0, 4095).astype(np.uint16)
+    hot = _put_hot(frame, random, settings, weather)
+    samples = np.clip(np.rint(frame), 0, LEVELS - 1).astype(np.uint16)
     if weather.mirror:
         samples = np.ascontiguousarray(samples[:, ::-1])
     return Simulated(samples, matrix, *(_seen(puts, weather, settings) for puts in (stars, false, hot)), seed, draws, weather)
@@ -121,19 +122,25 @@ def _put_false(frame, random, catalogue, settings, weather, peak):
     return false
 
 
-def _put_hot(frame, random, weather):
+def _put_hot(frame, random, settings, weather):
     """Single samples that light up."""
     hot = []
     for _ in range(weather.hot):
         row, column = random.integers(0, frame.shape[0]), random.integers(0, frame.shape[1])
-        frame[row, column] = random.uniform(1000, 4095)
+        frame[row, column] = random.uniform(settings.threshold, LEVELS - 1)
         hot.append(Put(float(column), float(row)))
     return hot
 
 
 def _draw(frame, column, row, height, spread):
     """Adds one star's point spread, to 5.5 times its width."""
-    Gaussian2D(height, column, row, spread, spread).render(frame)
+    side = 2 * int(np.ceil(5.5 * spread)) + 1
+    try:
+        part, _ = overlap_slices(frame.shape, (side, side), (row, column), mode="trim")
+    except NoOverlapError:
+        return
+    rows, columns = np.mgrid[part]
+    frame[part] += Gaussian2D.evaluate(columns, rows, height, column, row, spread, spread, 0)
 
 
 def _seen(puts, weather, settings):

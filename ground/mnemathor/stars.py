@@ -19,6 +19,8 @@ GUESSES = {
     "magnitude": ("magnitude", "mag", "vmag", "v", "vt", "vtmag", "hpmag", "gmag", "phot_g_mean_mag", "btmag"),
 }
 
+TEXT = (".csv", ".ecsv", ".txt", ".tsv", ".dat")
+
 
 @dataclass
 class Selection:
@@ -112,22 +114,27 @@ def _about(refusal, records):
 
 
 def _read_table(path):
-    """A table of any kind that astropy knows by its ending or by a look inside."""
+    """A table of any kind that astropy knows."""
     path = Path(path)
     if not path.is_file():
         raise Mistake(f"{path} is not a file")
-    tries = [{"format": "ascii.csv", "comment": "#"}, {"format": "ascii.basic"}] if path.suffix.lower() in (".csv", ".txt", ".tsv") else [{}]
-    for how in [{"format": "ascii.ecsv"}] * (path.suffix.lower() == ".ecsv") + tries:
-        try:
-            table = Table.read(path, **how)
-            break
-        except Exception as error:  # astropy's readers raise many kinds
-            reason = error
-    else:
-        raise Mistake(f"{path} cannot be read as a table: {str(reason).strip().splitlines()[0]}") from reason
+    try:
+        table = _read_text_table(path) if path.suffix.lower() in TEXT else Table.read(path)
+    except Exception as error:  # astropy's readers raise many kinds
+        first = (str(error).strip().splitlines() or [type(error).__name__])[0]
+        raise Mistake(f"{path} cannot be read as a table: {first}") from error
     if not len(table):
         raise Mistake(f"{path} has no rows")
     return table
+
+
+def _read_text_table(path):
+    """Comma separated values, with comments behind #; else whatever astropy makes of the text."""
+    with open(path, encoding="utf-8") as file:
+        if file.readline().startswith("# %ECSV"):
+            return Table.read(path, format="ascii.ecsv")
+    table = Table.read(path, format="ascii.csv", comment="#")
+    return table if len(table.colnames) > 2 else Table.read(path, format="ascii")
 
 
 def _column_names(table, columns, number):
@@ -169,9 +176,9 @@ def _identities(column):
 
 
 def _directions(ra, dec):
-    """Unit vectors times 10^9. A column's unit is kept to; else numbers are degrees, and text is hours and degrees."""
+    """Unit vectors times 10^9. Text is hours and degrees; numbers have their column's unit, else they are degrees."""
     text = not np.issubdtype(ra.dtype, np.number)
-    units = (ra.unit or (u.hourangle if text else u.deg), dec.unit or u.deg)
+    units = (u.hourangle, u.deg) if text else (ra.unit or u.deg, dec.unit or u.deg)
     try:
         sky = SkyCoord(np.asarray(ra), np.asarray(dec), unit=units)
     except (ValueError, TypeError, u.UnitsError) as error:

@@ -170,7 +170,7 @@ def wrong_names(tracked, frame, catalogue):
     """How many listed stars have a name whose star was not put near the measured position."""
     places = {star.identity: (star.column, star.row) for star in frame.stars}
     named = [(s, int(catalogue["identity"][k])) for s, k in zip(tracked.report.stars, tracked.assignment) if k is not None]
-    return sum(not _near(places.get(name), star) for star, name in named)
+    return sum(1 for star, name in named if not _near(places.get(name), star))
 
 
 def _near(place, star):
@@ -188,8 +188,8 @@ def _cell(settings, outcomes, limit):
         settings.needed,
         len(outcomes),
         len(accepted),
-        sum(outcome.wrong_names > 0 for outcome in accepted),
-        sum(outcome.axis_error > limit for outcome in accepted),
+        sum(1 for outcome in accepted if outcome.wrong_names),
+        sum(1 for outcome in accepted if outcome.axis_error > limit),
         {number: refusals.count(number) for number in sorted(set(refusals))},
         *_middle_and_most(axis),
         *_middle_and_most(turn),

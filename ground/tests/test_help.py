@@ -1,0 +1,67 @@
+"""Every subcommand's help, as a user asks for it, and what is said where packages or the library are missing."""
+
+import re
+import sys
+
+import pytest
+from conftest import HERE, ROOT
+
+from mnemathor.commands import parser
+
+DESK = ["why", "rival", "index", "compare", "cut"]
+GROUND = ["frame", "catalogue", "settings", "solve", "picture", "simulate", "trial"]
+
+
+def test_help_lists_all_subcommands_a_line_each(mnemathor):
+    for word in ("help", "--help", "-h"):
+        answer = mnemathor(word)
+        assert answer.returncode == 0 and answer.stderr == ""
+        named = re.findall(r"^\./mnemathor ([a-z]+) [A-Z\[]", answer.stdout, re.MULTILINE)
+        assert named == DESK + GROUND
+
+
+def test_the_lines_are_those_of_the_package(mnemathor):
+    lines = dict(re.findall(r"^\./mnemathor ([a-z]+) .*?  +(.*)$", mnemathor("help").stdout, re.MULTILINE))
+    (choices,) = [action for action in parser()._actions if action.choices]
+    assert list(choices.choices) == GROUND
+    for told in choices._choices_actions:
+        assert lines[told.dest] == told.help
+
+
+@pytest.mark.parametrize("name", DESK + GROUND)
+def test_every_subcommand_has_help(mnemathor, name):
+    answer = mnemathor(name, "--help")
+    assert answer.returncode == 0 and answer.stderr == ""
+    assert answer.stdout.startswith(f"usage: ./mnemathor {name} ") and len(answer.stdout.splitlines()) > 3
+
+
+def test_missing_packages_are_named_with_the_command(mnemathor, tmp_path):
+    bare = tmp_path / "python"
+    bare.write_text(f'#!/bin/sh\nexec {sys.executable} -I -S "$@"\n')
+    bare.chmod(0o755)
+    answer = mnemathor("solve", tmp_path, MNEMATHOR_PYTHON=str(bare))
+    assert answer.returncode == 2 and answer.stdout == ""
+    for word in ("numpy", "astropy", "matplotlib", "tqdm", "ground/setup"):
+        assert word in answer.stderr
+    # The desk's help and the list need no Python.
+    assert mnemathor("why", "--help", MNEMATHOR_PYTHON="/nowhere").returncode == 0
+    assert mnemathor("help", MNEMATHOR_PYTHON="/nowhere").returncode == 0
+    assert "does not run" in mnemathor("solve", tmp_path, MNEMATHOR_PYTHON="/nowhere").stderr
+
+
+def test_a_missing_library_is_told_with_the_command(mnemathor, folder):
+    answer = mnemathor("simulate", folder, MNEMATHOR_LIBRARY="/nowhere.so")
+    assert answer.returncode == 2 and "./library" in answer.stderr
+
+
+def test_setup_does_nothing_where_all_is_there(mnemathor):
+    import subprocess
+
+    done = subprocess.run([HERE / "setup"], env={"MNEMATHOR_PYTHON": sys.executable, "PATH": "/nowhere:/usr/bin:/bin"}, capture_output=True, check=False)
+    assert done.returncode == 0 and done.stdout + done.stderr == b""
+
+
+def test_readme_and_help_know_the_same_subcommands():
+    readme = (ROOT / "README.md").read_text()
+    for name in DESK + GROUND:
+        assert f"mnemathor {name}" in readme, name

@@ -1,0 +1,53 @@
+"""Trials: the same whatever the number of processes, bounds as stated, and the recommended pair by its rule."""
+
+import json
+
+import pytest
+
+from mnemathor.folder import read_settings
+from mnemathor.trials import Cell, Trial, none_seen
+
+
+def cell(tolerance, needed, accepted, wrong):
+    return Cell(tolerance, needed, 100, accepted, wrong, 0, {}, None, None, None, None)
+
+
+def test_the_bound_where_none_was_seen():
+    assert none_seen(0) is None
+    for tries in (1, 20, 300):
+        # With that rate, none of so many has a chance of 5 %.
+        assert (1 - none_seen(tries)) ** tries == pytest.approx(0.05)
+    assert none_seen(300) == pytest.approx(3 / 300, rel=0.01)
+
+
+def test_the_recommended_pair():
+    cells = (cell(10, 3, 99, 1), cell(10, 4, 90, 0), cell(10, 5, 90, 0), cell(20, 5, 90, 0), cell(20, 6, 80, 0))
+    assert Trial(cells, 100, 0, 1.0, 100).recommended is cells[2]
+    assert Trial((cell(10, 3, 99, 1), cell(10, 8, 0, 0)), 100, 0, 1.0, 100).recommended is None
+
+
+def test_a_small_trial(run, folder, tmp_path):
+    words = ("trial", folder, "--frames", 12, "--seed", 3, "--needed", 3, 4, "--tolerances", 2 * 10**14, 10**15)
+    status, out, _ = run(*words, "--processes", 1, "--json", "--plot", tmp_path / "t.png")
+    one = json.loads(out)
+    assert status == 0 and len(one["cells"]) == 4 and (tmp_path / "t.png").stat().st_size > 5000
+    assert json.loads(run(*words, "--processes", 3, "--json")[1]) == one
+    for each in one["cells"]:
+        assert each["frames"] == 12 == each["accepted"] + sum(each["refusals"].values())
+        assert each["wrong_names"] <= each["accepted"]
+    assert one["cells"][2]["wrong_names"] > 0 and one["recommended"]["needed"] == 4
+    status, out, _ = run(*words, "--set")
+    assert status == 0 and "recommended: tolerance 200000000000000, needed 4" in out and "exact binomial" in out
+    assert (read_settings(folder).tolerance, read_settings(folder).needed) == (2 * 10**14, 4)
+
+
+def test_a_mirrored_readout_is_never_accepted(run, folder):
+    words = ("--frames", 12, "--needed", 4, "--tolerances", 186 * 10**12, "--mirror", "--least", 6, "--json")
+    status, out, _ = run("trial", folder, *words)
+    assert status == 0 and json.loads(out)["cells"][0]["accepted"] == 0 and json.loads(out)["recommended"] is None
+
+
+def test_trials_that_are_refused(run, folder):
+    for words, told in ((("--needed", 9), "refused 9 0"), (("--tolerances", 10**16 + 1), "refused 9 0"), (("--frames", 0), "at least one frame")):
+        status, out, err = run("trial", folder, *words)
+        assert status in (1, 2) and told in err and out == ""
