@@ -61,7 +61,7 @@ def test_setup_does_nothing_where_all_is_there(mnemathor):
     assert done.returncode == 0 and done.stdout + done.stderr == b""
 
 
-def test_readme_and_help_know_the_same_subcommands():
+def test_readme_has_every_subcommand():
     readme = (ROOT / "README.md").read_text()
-    for name in DESK + GROUND:
-        assert f"mnemathor {name}" in readme, name
+    for name in GROUND:
+        assert f"./mnemathor {name} " in readme, name
