@@ -34,7 +34,7 @@ def matrix_of(pointing):
 
 
 def random_matrix(random):
-    """A matrix of any attitude, all equally likely: the turns that a random point of the sphere in four dimensions stands for."""
+    """A matrix of any attitude, all equally likely: the axis anywhere on the sphere, and any roll."""
     ra, sine, roll = random.uniform(0, 360), random.uniform(-1, 1), random.uniform(0, 360)
     return matrix_of(Pointing(ra, float(np.rad2deg(np.arcsin(sine))), roll))
 

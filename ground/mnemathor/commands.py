@@ -252,6 +252,8 @@ def _add_weather(words, **usual):
 def _weather(words):
     from .simulation import Weather
 
+    if words.seed < 0:
+        raise Mistake("--seed must not be below 0")
     return Weather(*(getattr(words, name) for name in ("spread", "background", "noise", "hot", "false", "jitter", "mirror", "faintest", "least")))
 
 
@@ -303,6 +305,7 @@ def _add_trial(subcommands):
     words.add_argument("--tolerances", type=int, nargs="+", metavar="T", help="else 1/16, 1/8, 1/4, 1/2 and 1 pixel at the separation of the shorter side")
     words.add_argument("--needed", type=int, nargs="+", default=[3, 4, 5, 6], metavar="N", help="needed counts")
     words.add_argument("--off", type=float, default=1.0, metavar="PIXELS", help="an axis farther off than this is a wrong pointing")
+    words.add_argument("--rivals", action="store_true", help="also count the accepted frames that have no rival, and wrong names among them")
     words.add_argument("--processes", type=int, metavar="N", help="else as many as there are processors")
     words.add_argument("--plot", metavar="OUT.png", help="draw the grid")
     words.add_argument("--json", action="store_true", help="print JSON")
@@ -315,7 +318,7 @@ def _trial(words):
 
     settings, catalogue = read_settings(words.folder), read_catalogue(words.folder)
     tolerances = words.tolerances or trials.default_tolerances(settings)
-    rest = {"seed": words.seed, "off": words.off, "processes": words.processes}
+    rest = {"seed": words.seed, "off": words.off, "rivals": words.rivals, "processes": words.processes}
     made = trials.trial(settings, catalogue, words.frames, tolerances, words.needed, _weather(words), **rest)
     if words.plot:
         from . import pictures

@@ -52,7 +52,8 @@ def _with_warnings(read, *arguments):
 
 
 def _is_fits(path):
-    return any(suffix.lower() in FITS_ENDINGS for suffix in path.suffixes[-2:])
+    endings = [ending.lower() for ending in path.suffixes if ending.lower() not in (".gz", ".bz2")]
+    return bool(endings) and endings[-1] in FITS_ENDINGS
 
 
 def _read_fits(path, hdu):

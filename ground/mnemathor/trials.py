@@ -30,11 +30,15 @@ class Outcome:
     wrong_names: int = 0
     axis_error: float | None = None
     turn_error: float | None = None
+    rival: bool | None = None
 
 
 @dataclass(frozen=True)
 class Cell:
-    """All frames under one pair of settings; the errors are those of frames without a wrong name."""
+    """All frames under one pair of settings; the errors are those of frames without a wrong name.
+
+    Where rivals were asked for, `alone` are the accepted frames that have none, and `wrong_alone` those of them with a wrong name.
+    """
 
     tolerance: int
     needed: int
@@ -47,6 +51,8 @@ class Cell:
     axis_95: float | None
     turn_median: float | None
     turn_95: float | None
+    alone: int | None = None
+    wrong_alone: int | None = None
 
     @property
     def bound(self):
@@ -98,7 +104,7 @@ def default_tolerances(settings):
     return [tolerance_of(part * pixel_angle(settings), shorter_side(settings)) for part in PARTS]
 
 
-def trial(settings, catalogue, frames, tolerances, needed, weather, seed=0, off=1.0, processes=None, quiet=False):
+def trial(settings, catalogue, frames, tolerances, needed, weather, seed=0, off=1.0, rivals=False, processes=None, quiet=False):
     """Simulates the frames and tries every pair of settings on each; `off` is the axis error, in pixels, from which a pointing is wrong."""
     pairs = [replace(settings, tolerance=int(t), needed=int(n)) for t in tolerances for n in needed]
     if frames < 1 or not pairs:
@@ -107,7 +113,7 @@ def trial(settings, catalogue, frames, tolerances, needed, weather, seed=0, off=
         raise Mistake("the folder's settings have no lens yet")
     for pair in pairs:
         _refuse_early(pair, catalogue)
-    job = (settings, catalogue, _index(settings, catalogue), pairs, weather, seed)
+    job = (settings, catalogue, _index(settings, catalogue), pairs, weather, seed, rivals)
     results = list(_run(job, frames, processes, quiet))
     limit = (off * pixel_angle(settings)).to_value(u.arcsec)
     cells = tuple(_cell(pair, [outcomes[k] for outcomes, _ in results], limit) for k, pair in enumerate(pairs))
@@ -150,20 +156,28 @@ def _run(job, frames, processes, quiet):
 
 def _one(number):
     """One frame: its outcomes for all pairs, and how many attitudes were drawn for it. Its seed is the trial's with its number."""
-    settings, catalogue, (pairs_index, floor), pairs, weather, seed = _job
+    settings, catalogue, index, pairs, weather, seed, rivals = _job
     frame = simulate(settings, catalogue, (seed, number), weather)
-    return [judge(frame, pair, catalogue, pairs_index, floor) for pair in pairs], frame.draws
+    return [_judge(frame, pair, catalogue, index, rivals) for pair in pairs], frame.draws
 
 
-def judge(frame, settings, catalogue, pairs_index, floor):
+def _judge(frame, settings, catalogue, index, rivals):
     """The outcome of one simulated frame under one pair of settings."""
+    room = library.new_room()
     try:
-        tracked = library.chain_by_index(frame.samples, settings, catalogue, pairs_index, floor)
+        tracked = library.chain_by_index(frame.samples, settings, catalogue, *index, room)
     except Refused as refusal:
         return Outcome(refusal.number)
     rows = library.cosines(tracked.matrix)
-    wrong = wrong_names(tracked, frame, catalogue)
-    return Outcome(0, wrong, float(angle_between(rows[2], frame.matrix[2])), float(turn_between(rows, frame.matrix)))
+    errors = float(angle_between(rows[2], frame.matrix[2])), float(turn_between(rows, frame.matrix))
+    rival = _has_rival(tracked, settings, catalogue, room) if rivals else None
+    return Outcome(0, wrong_names(tracked, frame, catalogue), *errors, rival)
+
+
+def _has_rival(tracked, settings, catalogue, room):
+    """Whether another identification of an accepted frame fits."""
+    directions = library.directions(settings, tracked.report)
+    return library.rival(directions, catalogue, settings, library.ranking_in(room, directions, catalogue)) is not None
 
 
 def wrong_names(tracked, frame, catalogue):
@@ -193,7 +207,16 @@ def _cell(settings, outcomes, limit):
         {number: refusals.count(number) for number in sorted(set(refusals))},
         *_middle_and_most(axis),
         *_middle_and_most(turn),
+        *_alone(accepted),
     )
+
+
+def _alone(accepted):
+    """How many accepted frames have no rival, and how many of these a wrong name; None where rivals were not asked for."""
+    if not accepted or accepted[0].rival is None:
+        return None, None
+    alone = [outcome for outcome in accepted if not outcome.rival]
+    return len(alone), sum(1 for outcome in alone if outcome.wrong_names)
 
 
 def _middle_and_most(errors):
@@ -213,7 +236,8 @@ def table(trial, settings):
         angle = f"{angle_of(cell.tolerance, side).value:.1f}″"
         counts = f"{_counted(cell.wrong_names, cell.bound):>16} {_counted(cell.wrong_pointing, cell.bound):>16}"
         errors = f"{_errors(cell.axis_median, cell.axis_95):>14} {_errors(cell.turn_median, cell.turn_95):>14}"
-        lines.append(f"{cell.tolerance:>17} {angle:>9} {cell.needed:>6} {100 * cell.accepted / cell.frames:>7.1f}% {counts} {errors}")
+        alone = "" if cell.alone is None else f"  {100 * cell.alone / cell.frames:.1f}% alone, wrong names {_counted(cell.wrong_alone, none_seen(cell.alone))}"
+        lines.append(f"{cell.tolerance:>17} {angle:>9} {cell.needed:>6} {100 * cell.accepted / cell.frames:>7.1f}% {counts} {errors}{alone}")
     return "\n".join([*lines, _advice(trial)])
 
 

@@ -65,3 +65,12 @@ def test_readme_has_every_subcommand():
     readme = (ROOT / "README.md").read_text()
     for name in GROUND:
         assert f"./mnemathor {name} " in readme, name
+
+
+def test_the_commands_of_settings_md_are_commands():
+    guide = (ROOT / "docs" / "SETTINGS.md").read_text()
+    lines = re.findall(r"^    \./mnemathor (.*)$", guide, re.MULTILINE)
+    assert len(lines) > 8
+    for line in lines:
+        words = [{"K": "1", "J": "0.1"}.get(word, word) for word in line.split()]
+        assert parser().parse_args(words).run

@@ -140,7 +140,7 @@ def test_broken_files_are_told(run, folder):
 
 
 def test_simulations_that_make_no_sense(run, folder):
-    for words in (("--spread", 0), ("--noise", -1), ("--least", 500)):
+    for words in (("--spread", 0), ("--noise", -1), ("--least", 500), ("--seed", -1)):
         status, out, err = run("simulate", folder, *words)
         assert (status, out) == (2, "") and len(err.splitlines()) == 1
         assert not (folder / "frame.bin").exists()

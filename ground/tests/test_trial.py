@@ -41,10 +41,19 @@ def test_a_small_trial(run, folder, tmp_path):
     assert (read_settings(folder).tolerance, read_settings(folder).needed) == (2 * 10**14, 4)
 
 
-def test_a_mirrored_readout_is_never_accepted(run, folder):
-    words = ("--frames", 12, "--needed", 4, "--tolerances", 186 * 10**12, "--mirror", "--least", 6, "--json")
+def test_a_mirrored_readout_is_not_accepted(run, folder):
+    words = ("--frames", 12, "--needed", 5, "--tolerances", 186 * 10**12, "--mirror", "--least", 6, "--json")
     status, out, _ = run("trial", folder, *words)
     assert status == 0 and json.loads(out)["cells"][0]["accepted"] == 0 and json.loads(out)["recommended"] is None
+
+
+def test_rivals_are_counted(run, folder):
+    words = ("trial", folder, "--frames", 8, "--needed", 3, 4, "--tolerances", 2 * 10**14, "--json")
+    with_rivals, without = json.loads(run(*words, "--rivals")[1])["cells"], json.loads(run(*words)[1])["cells"]
+    for each, other in zip(with_rivals, without):
+        assert other["alone"] is None and each["accepted"] == other["accepted"]
+        assert each["wrong_alone"] <= each["alone"] <= each["accepted"]
+    assert with_rivals[0]["alone"] < with_rivals[0]["accepted"]
 
 
 def test_trials_that_are_refused(run, folder):
