@@ -137,3 +137,28 @@ def test_structs_are_the_headers(tmp_path):
 def test_every_call_of_the_header_is_there():
     named = set(re.findall(r"struct mn_refusal (mn_[a-z_]+)\(", HEADER.read_text())) - {"mn_take_refusal"}
     assert named == set(structures.CALLS)
+
+
+def c_arguments(text):
+    """The types of a C call's arguments; a pointer has a star behind its type."""
+    words = [re.sub(r"const|struct", "", argument).split() for argument in text.replace("*", "* ").split(",")]
+    return ["".join(types) for *types, _ in words]
+
+
+def python_argument(kind):
+    """The same of a ctypes argument. Directions are lent as rows of three 32-bit numbers."""
+    numbers = {np.uint16: "uint16_t*", np.uint8: "uint8_t*", np.int64: "int64_t*", np.float64: "double*", np.int32: "mn_direction*"}
+    plain = {ctypes.c_size_t: "size_t", ctypes.c_int64: "int64_t", ctypes.c_int32: "int32_t", structures.Refusal: "mn_refusal"}
+    if hasattr(kind, "_dtype_"):
+        return numbers[kind._dtype_.type]
+    target = getattr(kind, "_type_", None)
+    if isinstance(target, type):
+        return "int64_t*" if target is ctypes.c_int64 else f"mn_{target.__name__.lower()}*"
+    return plain[kind]
+
+
+def test_every_call_takes_what_the_header_says():
+    header = re.sub(r"\s+", " ", HEADER.read_text())
+    for name, arguments in structures.CALLS.items():
+        (told,) = re.findall(rf"MN_FUNCTION struct mn_refusal {name}\((.*?)\)", header)
+        assert [python_argument(kind) for kind in arguments] == c_arguments(told), name

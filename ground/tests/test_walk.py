@@ -32,7 +32,7 @@ def test_the_walk(tmp_path):
     assert answers["solve"].startswith("right ascension 83.50") and "WARNING" not in answers["solve"]
     assert "recommended" in answers["trial"]
     drawn, shown = imread(tmp_path / "night.png"), imread(ROOT / "docs" / "pictures" / "orion.png")
-    assert drawn.shape == shown.shape and abs(drawn - shown).mean() < 0.01
+    assert drawn.shape == shown.shape and (abs(drawn - shown).max(axis=2) > 0.2).mean() < 0.0005
     # README shows what solve prints.
     for line in answers["solve"].splitlines():
         assert f"       {line.rstrip()}\n" in README, line
