@@ -108,6 +108,16 @@ def test_the_same_seed_gives_the_same_frame(settings, catalogue):
     assert (frames[0] == frames[1]).all() and (frames[0] != frames[2]).any()
 
 
+@pytest.mark.parametrize("mirror", [False, True])
+def test_the_truth_is_where_the_samples_are(settings, catalogue, mirror):
+    weather = Weather(noise=0, false=2, hot=2, mirror=mirror)
+    made = simulate(settings, catalogue, 3, weather, Pointing(83.5, -1, 350))
+    for put in made.stars + made.false + made.hot:
+        assert made.samples[round(put.row), round(put.column)] > settings.threshold
+    plain = simulate(settings, catalogue, 3, replace(weather, mirror=False), Pointing(83.5, -1, 350))
+    assert (made.samples == (plain.samples[:, ::-1] if mirror else plain.samples)).all()
+
+
 def test_hot_pixels_and_false_stars_are_put(settings, catalogue):
     plain = simulate(settings, catalogue, 8, Weather(noise=0, least=3))
     spoilt = simulate(settings, catalogue, 8, Weather(noise=0, least=3, hot=4, false=2))

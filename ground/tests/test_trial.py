@@ -1,11 +1,15 @@
 """Trials: the same whatever the number of processes, bounds as stated, and the recommended pair by its rule."""
 
 import json
+from dataclasses import replace
 
 import pytest
 
+from mnemathor import library
+from mnemathor.attitude import Pointing
 from mnemathor.folder import read_settings
-from mnemathor.trials import Cell, Trial, none_seen
+from mnemathor.simulation import Weather, simulate
+from mnemathor.trials import Cell, Trial, none_seen, wrong_names
 
 
 def cell(tolerance, needed, accepted, wrong):
@@ -18,6 +22,19 @@ def test_the_bound_where_none_was_seen():
         # With that rate, none of so many has a chance of 5 %.
         assert (1 - none_seen(tries)) ** tries == pytest.approx(0.05)
     assert none_seen(300) == pytest.approx(3 / 300, rel=0.01)
+
+
+def test_what_a_wrong_name_is(settings, catalogue):
+    """Names right, two exchanged, and one given to a false star."""
+    made = simulate(settings, catalogue, 6, Weather(false=1), Pointing(83.5, -1, 350))
+    tracked = library.chain(made.samples, settings, catalogue)
+    first, second, *rest = tracked.assignment
+    assert None not in (first, second) and wrong_names(tracked, made, catalogue) == 0
+    assert wrong_names(replace(tracked, assignment=(second, first, *rest)), made, catalogue) == 2
+    (false,) = made.false
+    there = library.Centroid(round(256 * false.column), round(256 * false.row), 1)
+    report = replace(tracked.report, stars=(there, *tracked.report.stars[1:]))
+    assert wrong_names(replace(tracked, report=report), made, catalogue) == 1
 
 
 def test_the_recommended_pair():
