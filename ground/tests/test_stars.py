@@ -33,8 +33,9 @@ def test_every_kind_of_table(tmp_path, run, name):
     assert stars["magnitude"].tolist() == [1500, 4000, -1460]
     separation = places(stars).separation(SkyCoord([10.5, 83, 250.25], [-5.25, 0, 60.5], unit="deg"))
     assert (separation < 0.001 * u.arcsec).all()
-    exact = np.cos(np.deg2rad(-5.25)) * np.cos(np.deg2rad(10.5)), np.cos(np.deg2rad(-5.25)) * np.sin(np.deg2rad(10.5)), np.sin(np.deg2rad(-5.25))
-    assert [int(stars[0][axis]) for axis in "xyz"] == [round(1e9 * component) for component in exact]
+    ra, dec = np.deg2rad([10.5, 83, 250.25]), np.deg2rad([-5.25, 0, 60.5])
+    exact = {"x": np.cos(dec) * np.cos(ra), "y": np.cos(dec) * np.sin(ra), "z": np.sin(dec)}
+    assert all(stars[axis].tolist() == [round(1e9 * component) for component in exact[axis]] for axis in "xyz")
     lengths = sum(stars[axis].astype(float) ** 2 for axis in "xyz")
     assert (abs(lengths - 1e18) <= 4e9).all()
 
