@@ -8,6 +8,7 @@ from astropy.table import MaskedColumn, Table
 from conftest import BRIGHT
 
 from mnemathor.folder import read_catalogue
+from mnemathor.refusals import sentences
 from mnemathor.stars import places
 
 RA, DEC, MAG = [10.5, 250.25, 83.0], [-5.25, 60.5, 0.0], [1.5, -1.46, 4.0004]
@@ -116,8 +117,8 @@ def bad_tables(tmp_path):
         ((BRIGHT,), 1, "4308 stars were chosen; --limit, --around and --brightest choose"),
         ((good, "--limit", -5), 1, "refused 6 0"),
         ((good, "--apart", 180), 1, "refused 21 0"),
-        ((tmp_path / "twice.csv",), 1, "refused 7 1: a record breaks its rule (the star of identity 3"),
-        ((tmp_path / "faint.csv",), 1, "refused 7 1: a record breaks its rule (the star of identity 5, magnitude 12.001"),
+        ((tmp_path / "twice.csv",), 1, f"refused 7 1: {sentences()[7]} (the star of identity 3"),
+        ((tmp_path / "faint.csv",), 1, f"refused 7 1: {sentences()[7]} (the star of identity 5, magnitude 12.001"),
         ((tmp_path / "names.csv",), 2, "--number"),
         ((tmp_path / "strange.csv",), 2, "no column found for identity, ra, dec, magnitude; name them with --columns, of a, b, c"),
         ((tmp_path / "half.csv",), 2, "no whole number"),
