@@ -101,11 +101,6 @@ impl Entry {
         [8, 30, 5, 3, 2, 11, 11, 47, 6, 3, 2, 47, 3, 2, 2, 3, 3, 11, 3, 2, 2][self.index()]
     }
 
-    /// Whether plain Rust has this call too.
-    pub fn in_plain(self) -> bool {
-        self != Entry::Reason
-    }
-
     /// The refusals this call can give, the one that goes before the others first.
     pub fn refusals(self) -> &'static [u8] {
         match self {
@@ -605,7 +600,7 @@ impl Call {
         Outcome { out, lent }
     }
 
-    /// The numbers plain Rust gives for the buffers lent, for a call that it has.
+    /// The numbers plain Rust gives for the buffers lent.
     pub fn run_plain_on(&self, lent: &mut Lent) -> Numbers {
         let (width, height, threshold) = (self.width as usize, self.height as usize, self.threshold as usize);
         let needed = self.needed as usize;
@@ -707,7 +702,10 @@ impl Call {
                 let guider = (&mut lent.guider[..]).try_into().expect("the call is lent a guider");
                 numbers(&plain::guider_frame(guider, &exactly(&lent.list)))
             }
-            Entry::Reason => panic!("plain Rust has no {}", self.entry.name()),
+            Entry::Reason => {
+                let (row, column) = (self.row as usize, self.column as usize);
+                numbers(&plain::reason(&lent.samples, width, height, threshold, row, column))
+            }
         }
     }
 

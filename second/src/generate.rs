@@ -526,7 +526,7 @@ pub fn star_field(random: &Random, entry: Entry, most_stars: usize, brightnesses
     call
 }
 
-fn any_direction(random: &Random) -> Call {
+pub fn any_direction(random: &Random) -> Call {
     let mut call = Call::new(Entry::Direction);
     let place = |random: &Random| match random.below(8) {
         0 => random.pick(&[0, 1, 261_887, 261_888]),
@@ -651,7 +651,7 @@ pub fn add_doubles(random: &Random, call: &mut Call) {
     call.ranking = Buffer::of(&rows.concat());
 }
 
-fn any_attitude(random: &Random) -> Call {
+pub fn any_attitude(random: &Random) -> Call {
     let pair = || {
         let first = any_vector(random);
         let second = match random.below(16) {

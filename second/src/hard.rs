@@ -16,12 +16,15 @@ const SINE_5: i64 = 87_156;
 const SINE_10: i64 = 173_648;
 const SINE_20: i64 = 342_020;
 
+const TRILLION: u64 = 1_000_000_000_000;
+
 /// How far the directions of unrelated searches lie from the axis: 20, 10 and 5 degrees.
 pub const REACHES: [i64; 3] = [SINE_20, SINE_10, SINE_5];
 
-/// The hard searches by name, each with its needed count. Only the first finds a match.
+/// The searches by name, each with its needed count. The first two and the last find a match.
 pub fn searches(random: &Random) -> Vec<(&'static str, Call)> {
     vec![
+        ("search, true match first in each row, 3", truth_first(random)),
         ("search, true match last in each row, 3", truth_last(random)),
         ("search, no match, 3", without_match(random)),
         (
@@ -32,6 +35,16 @@ pub fn searches(random: &Random) -> Vec<(&'static str, Call)> {
         ("search, two hopeless directions last, 7", hopeless_pair(random, false)),
         ("search, the same, two stars elsewhere agree, 7", hopeless_pair(random, true)),
         ("search, pairs agree, threes do not, 7", no_three(random)),
+        (
+            "search, two groups and their mirror images, T 10^12, 5",
+            mirrored_groups(random, 5, TRILLION, 2_000),
+        ),
+        ("search, the same, denser, 6", mirrored_groups(random, 6, TRILLION, 1_000)),
+        ("search, the same, T 4 x 10^12, 7", mirrored_groups(random, 7, 4 * TRILLION, 2_000)),
+        (
+            "search, the same, T 10^15: threes decide alone, 5",
+            mirrored_groups(random, 5, 1_000 * TRILLION, 1_000),
+        ),
     ]
 }
 
@@ -72,12 +85,46 @@ fn no_three(random: &Random) -> Call {
     search(random, &directions, &stars, 7, MOST_TOLERANCE / 2)
 }
 
+/// Eight stars of two dense groups that the catalogue has in a mirror alone: every two of them agree with their images, and
+/// no three does.
+pub fn mirrored_groups(random: &Random, needed: u64, tolerance: u64, reach: i64) -> Call {
+    let (seen, stars) = groups(random, reach);
+    search(random, &seen, &stars, needed, tolerance)
+}
+
+/// The same sky, and the images of those eight, which it has.
+pub fn true_groups(random: &Random, needed: u64, tolerance: u64, reach: i64) -> Call {
+    let (seen, stars) = groups(random, reach);
+    let images: Vec<[i32; 3]> = seen.into_iter().map(sky::mirror).collect();
+    search(random, &images, &stars, needed, tolerance)
+}
+
+/// Eight stars of two groups 20 degrees apart, and a sky of others of these groups, their images in a mirror, and the images
+/// of the eight.
+fn groups(random: &Random, reach: i64) -> (Vec<[i32; 3]>, Vec<[i32; 3]>) {
+    let both =
+        |count: usize| [1, -1].map(|side| made(count, || about(random, [side * SINE_10, 0], reach))).concat();
+    let (eight, mut stars) = (both(4), both(STARS / 4 - 4));
+    let images: Vec<[i32; 3]> = stars.iter().chain(&eight).map(|star| sky::mirror(*star)).collect();
+    stars.extend(images);
+    (eight, stars)
+}
+
 /// Directions that have nothing to do with the stars, within the given reach of the axis; stars within 20
 /// degrees.
 pub fn unrelated(random: &Random, needed: u64, tolerance: u64, reach: i64) -> Call {
     let directions = made(8, || in_cap(random, reach));
     let stars = made(STARS, || in_cap(random, SINE_20));
     search(random, &directions, &stars, needed, tolerance)
+}
+
+/// Eight stars of a sky of 512, in the vote's order.
+fn truth_first(random: &Random) -> Call {
+    let view = View::of(random, random_stars(random, STARS), 8, 0);
+    let mut call = view.search(random, 3);
+    let catalogue = call.catalogue.values();
+    call.ranking = Buffer::of(&voted_ranking(&view.directions, &catalogue, call.tolerance));
+    call
 }
 
 /// Eight stars of a sky of 512, each the last of its direction's row.

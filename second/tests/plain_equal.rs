@@ -1,18 +1,15 @@
-//! Plain Rust gives what the wide implementation gives: random calls of every kind that it has, damaged ones
+//! Plain Rust gives what the wide implementation gives: random calls of every kind, damaged ones
 //! too.
 
-use second::call::{Call, Entry, ENTRIES};
+use second::call::{Call, ENTRIES};
 use second::generate::any_call;
 use second::random::Random;
 use second::search::Effort;
 
-fn entries() -> impl Iterator<Item = Entry> {
-    ENTRIES.into_iter().filter(|entry| entry.in_plain())
-}
-
 fn calls(seed: u64, count: usize) -> impl Iterator<Item = Call> {
     let random = Random::new(seed);
-    (0..count).flat_map(move |_| entries().map(|entry| any_call(&random, entry)).collect::<Vec<_>>())
+    (0..count)
+        .flat_map(move |_| ENTRIES.into_iter().map(|entry| any_call(&random, entry)).collect::<Vec<_>>())
 }
 
 #[test]
@@ -29,7 +26,7 @@ fn plain_equals_wide() {
             number => refused[call.entry.index()][number as usize] += 1,
         }
     }
-    for entry in entries() {
+    for entry in ENTRIES {
         assert!(accepted[entry.index()] > 200, "{entry:?} accepted {}", accepted[entry.index()]);
         for &number in entry.refusals() {
             assert!(refused[entry.index()][usize::from(number)] > 0, "{entry:?} never refused with {number}");

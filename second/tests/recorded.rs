@@ -159,9 +159,7 @@ fn recorded_cases_are_sound() {
         assert_eq!(reader.number(1), i64::from(call.entry.kind()));
         assert_eq!(reader.scalars(scalar_count(call.entry)), call.scalars());
         reader.check_buffers(call.entry, &call.lend());
-        if call.entry.in_plain() {
-            assert!(call.run_plain() == case.outcome, "{:?} {:?}", call.entry, call.scalars());
-        }
+        assert!(call.run_plain() == case.outcome, "{:?} {:?}", call.entry, call.scalars());
     }
     assert_eq!(reader.rest, [0]);
 

@@ -1,30 +1,30 @@
 //! The index: building it, and a ranking and a chain that are lent it. Both test it before they vote.
 
 use second::call::{Buffer, Call, Entry};
+use second::catalogue;
 use second::direction::direction;
 use second::dot;
 use second::frame;
 use second::generate::{index_bytes, lend_index};
 
-const TOLERANCE: u64 = 100_000_000_000_000;
+pub const NARROW: u64 = 100_000_000_000_000;
 
 /// The index built, its test, the ranking with a narrow tolerance, plain and by index, and the chain by index. The
 /// directions of `ranking` are anywhere, so their index has nearly every pair; those of `field` are neighbours, as in
 /// a camera, and theirs has few.
 pub fn inputs(ranking: &Call, field: &Call, chain: &Call) -> Vec<(&'static str, Call)> {
-    let ranking = Call { tolerance: TOLERANCE, ..ranking.clone() };
-    let ranking_by_index = by_index(&ranking, &given_directions(&ranking));
-    let field = Call { tolerance: TOLERANCE, ..field.clone() };
-    let field_by_index = by_index(&field, &given_directions(&field));
+    let ranking = Call { tolerance: NARROW, ..ranking.clone() };
+    let ranking_by_index = shortest(&ranking);
+    let field_by_index = shortest(field);
     vec![
         ("index, 512 stars, every pair", build(&ranking)),
         ("test of the index, nearly every pair", test(&ranking_by_index)),
         ("test of the index, a camera's field", test(&field_by_index)),
         ("ranking, anywhere, T 10^14", ranking),
         ("ranking by index, anywhere, T 10^14", ranking_by_index),
-        ("ranking, a camera's field, T 10^14", field),
+        ("ranking, a camera's field, T 10^14", field.clone()),
         ("ranking by index, a camera's field, T 10^14", field_by_index),
-        ("chain by index, the same star field", by_index(chain, &seen_directions(chain))),
+        ("chain by index, the same star field", shortest(chain)),
     ]
 }
 
@@ -40,17 +40,40 @@ fn build(ranking: &Call) -> Call {
 }
 
 /// The same call, with the shortest index by which every pair of its directions is voted.
-fn by_index(call: &Call, directions: &[[i128; 3]]) -> Call {
-    let mut call = call.clone();
-    call.entry = match call.entry {
-        Entry::Ranking => Entry::RankingByIndex,
-        _ => Entry::ChainByIndex,
-    };
+pub fn shortest(call: &Call) -> Call {
+    let directions = directions_of(call);
     let products = directions.iter().flat_map(|v| directions.iter().map(move |w| dot(v, w)));
     let least = products.min().expect("the call has directions");
     let floor = least - i128::from(call.tolerance);
-    lend_index(&mut call, i64::try_from(floor).expect("products of directions are far from the limits"));
+    by_index(call, i64::try_from(floor).expect("products of directions are far from the limits"))
+}
+
+/// The same call, with the index for a floor.
+pub fn by_index(call: &Call, floor: i64) -> Call {
+    let entry = if call.entry == Entry::Ranking { Entry::RankingByIndex } else { Entry::ChainByIndex };
+    let mut call = Call { entry, ..call.clone() };
+    lend_index(&mut call, floor);
     call
+}
+
+/// How often a pair of stars agrees with a pair of directions.
+pub fn agreeing(ranking: &Call) -> usize {
+    let products = |vectors: &[[i128; 3]]| -> Vec<i128> {
+        let before = |(k, v)| vectors[..k].iter().map(move |w| dot(v, w));
+        vectors.iter().enumerate().flat_map(before).collect()
+    };
+    let stars = catalogue::read(&ranking.catalogue.values()).expect("the catalogue is sound");
+    let stars: Vec<[i128; 3]> = stars.into_iter().map(|star| star.direction).collect();
+    let (pairs, stars) = (products(&directions_of(ranking)), products(&stars));
+    let agrees = |p: &i128| stars.iter().filter(|q| (*q - p).abs() <= i128::from(ranking.tolerance)).count();
+    pairs.iter().map(agrees).sum()
+}
+
+fn directions_of(call: &Call) -> Vec<[i128; 3]> {
+    if call.entry == Entry::Ranking {
+        return given_directions(call);
+    }
+    seen_directions(call)
 }
 
 fn given_directions(ranking: &Call) -> Vec<[i128; 3]> {

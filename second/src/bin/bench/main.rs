@@ -1,17 +1,21 @@
 //! Times the proved library against plain Rust on the same inputs, in one process.
 //!
-//! `bench` prints a row for each input, `bench PART` for those whose names have this part, and `bench scan`
-//! the worst and the median of many random searches.
+//! `bench` prints a row for each input, `bench PART` for those whose names have this part; `bench scan` and `bench mirrors`
+//! the worst and the median of many random searches; `bench growth` how times grow, with plots; `bench stack` the stack that
+//! each call takes.
 
 mod bursts;
 mod catalogues;
 mod clock;
 mod frames;
-mod gimbals;
+mod growth;
 mod indexes;
+mod plot;
 mod rankings;
 mod rivals;
 mod scan;
+mod small;
+mod stack;
 mod table;
 
 use second::hard;
@@ -21,7 +25,10 @@ use std::process::ExitCode;
 
 fn main() -> ExitCode {
     let equal = match env::args().nth(1).as_deref() {
-        Some("scan") => scan::run(),
+        Some("scan") => scan::unrelated(),
+        Some("mirrors") => scan::mirrored(),
+        Some("growth") => growth::run(),
+        Some("stack") => stack::run(),
         part => rows(part.unwrap_or("")),
     };
     if equal {
@@ -44,7 +51,7 @@ fn rows(part: &str) -> bool {
     .concat();
     let mut inputs: Vec<_> = single.into_iter().map(|(name, call)| (name, vec![call])).collect();
     inputs.extend(bursts::inputs(&random));
-    inputs.extend(gimbals::inputs(&random));
+    inputs.extend(small::inputs(&random));
     inputs.retain(|(name, _)| name.contains(part));
     table::print(&inputs)
 }

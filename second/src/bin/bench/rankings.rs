@@ -1,17 +1,17 @@
 //! The ranking and the whole chain, and both by an index.
 
 use crate::indexes;
-use std::cmp::Reverse;
 use second::call::{Buffer, Call, Entry};
 use second::dot;
 use second::generate::{flat, random_stars, Scene, View, MOST_TOLERANCE};
 use second::random::Random;
 use second::search::Effort;
 use second::sky;
+use std::cmp::Reverse;
 
 pub fn inputs(random: &Random) -> Vec<(&'static str, Call)> {
-    let (ranking, chain) = (ranking(random), solved_chain(random, 200, 160, 512));
-    let by_index = indexes::inputs(&ranking, &field(random), &chain);
+    let (ranking, chain) = (anywhere(random), solved_chain(random, 200, 160, 512));
+    let by_index = indexes::inputs(&ranking, &field(random, 512), &chain);
     let plain = vec![
         ("ranking, 8 directions, 512 stars", ranking),
         ("chain, 200 x 160 star field, 512 stars", chain),
@@ -20,7 +20,7 @@ pub fn inputs(random: &Random) -> Vec<(&'static str, Call)> {
 }
 
 /// Eight stars of a sky of 512.
-fn ranking(random: &Random) -> Call {
+pub fn anywhere(random: &Random) -> Call {
     let view = View::of(random, random_stars(random, 512), 8, 0);
     let mut call = Call::new(Entry::Ranking);
     call.directions = Buffer::of(&flat(&view.directions));
@@ -30,9 +30,9 @@ fn ranking(random: &Random) -> Call {
     call
 }
 
-/// A star of the same sky and its seven nearest.
-fn field(random: &Random) -> Call {
-    let stars = random_stars(random, 512);
+/// A star of a sky of so many and its seven nearest.
+pub fn field(random: &Random, stars: usize) -> Call {
+    let stars = random_stars(random, stars);
     let wide = |v: [i32; 3]| v.map(i128::from);
     let mut near = stars.clone();
     near.sort_by_key(|star| Reverse(dot(&wide(*star), &wide(stars[0]))));
@@ -41,6 +41,7 @@ fn field(random: &Random) -> Call {
     let mut call = Call::new(Entry::Ranking);
     call.directions = Buffer::of(&flat(&view.directions));
     call.catalogue = Buffer::of(&sky::catalogue(random, &stars));
+    call.tolerance = indexes::NARROW;
     call.room = Buffer::repeat(4_096, &[0]);
     call
 }

@@ -2,6 +2,7 @@
 
 use second::call::{Buffer, Call, Entry};
 use second::generate::{random_stars, voted_ranking, View};
+use second::hard::true_groups;
 use second::random::Random;
 use second::sky;
 
@@ -11,7 +12,13 @@ pub fn inputs(random: &Random) -> Vec<(&'static str, Call)> {
     vec![
         ("rival, 8 directions, 512 stars, alone", flight(random, false)),
         ("rival, the same with a double star", flight(random, true)),
+        ("rival, two groups and their mirror images, T 10^11, alone", in_groups(random)),
     ]
+}
+
+/// All eight are assigned, and every other choice has to be ruled out.
+fn in_groups(random: &Random) -> Call {
+    Call { entry: Entry::Rival, ..true_groups(random, 8, 100_000_000_000, 2_000) }
 }
 
 fn flight(random: &Random, double: bool) -> Call {
