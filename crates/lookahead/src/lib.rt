@@ -6,5 +6,5 @@ pub mod forward;
 pub mod narrow;
 pub mod pairs;
 
-// Below this tolerance few stars stand beside two others, and marks of pairs would cost more than they save.
+// Below this tolerance few pairs of stars agree with a pair of directions, and marks of all pairs before the first star would cost more than they save.
 const WIDE: u64 = 10000000000000;
