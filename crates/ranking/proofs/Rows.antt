@@ -14,6 +14,7 @@ use Rattle.votes.specs.Votes.{votesOf, countersOf}
 use Rattle.votes.specs.Laws.{counter-within}
 use Rattle.ranking.specs.Row.{every, votesAt, rowBy}
 use Rattle.ranking.specs.Ranking.{rowOf, rowsOf}
+use Rattle.ranking.specs.Rows.{rowAt, rowsBy, rows-by-length}
 use Rattle.ranking.specs.Laws.{rows-length}
 
 -- the row by the counters of direction i is the row of direction i
@@ -56,4 +57,20 @@ module _ (directions stars : List ℤ) (tolerance : ℕ) (first : List ℕ) wher
       let l = rows-length directions stars tolerance i in
       let p = take-at (rows i) (drop (i * m) first) (i * m) l in
       let q : drop (i * m + m) (rows i ++ drop (i * m) first) ≡ drop (i * m + m) first = rw (← l, drop-append-add, drop-drop) in
+      rw (f, k, e, p, drop-drop, q, add-one, suc-mul, append-assoc)
+
+module _ (votes : List ℕ) (m : ℕ) (first : List ℕ) where
+  pub rows-by-none : first ≡ rowsBy votes m 0 ++ drop (0 * m) first
+  unfolding rowsBy
+  rows-by-none = rw zero-mul
+
+  -- one row more: the part of the room that is direction i's is written
+  pub rows-by-more : (room row : List ℕ) (i : ℕ) → room ≡ rowsBy votes m i ++ drop (i * m) first → row ≡ rowAt votes m i
+      → take (i * m) room ++ (row ++ drop (i * m + m - i * m) (drop (i * m) room)) ≡ rowsBy votes m (i + 1) ++ drop ((i + 1) * m) first
+  unfolding rowsBy
+  rows-by-more room row i e f =
+      let k : i * m + m - i * m ≡ m = omega arith in
+      let l = rows-by-length votes m i in
+      let p = take-at (rowsBy votes m i) (drop (i * m) first) (i * m) l in
+      let q : drop (i * m + m) (rowsBy votes m i ++ drop (i * m) first) ≡ drop (i * m + m) first = rw (← l, drop-append-add, drop-drop) in
       rw (f, k, e, p, drop-drop, q, add-one, suc-mul, append-assoc)

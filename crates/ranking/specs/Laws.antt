@@ -17,7 +17,7 @@ use Rattle.ranking.specs.Row.{every}
 use Rattle.ranking.specs.Ranking.{rowOf, rowsOf, rankingOf}
 use Rattle.ranking.specs.Places.{all-at, counted-at, ahead-at, order-once}
 
-every-length : (key : ℕ → ℕ) (m : ℕ) → length (ordered every key m) ≡ m
+pub every-length : (key : ℕ → ℕ) (m : ℕ) → length (ordered every key m) ≡ m
 unfolding ordered
 every-length key zero = refl
 every-length key (suc m) = put-length key m (ordered every key m) ∙ ap suc (every-length key m)

@@ -3,6 +3,7 @@ pub mod Row
 pub mod Ranking
 pub mod Places
 pub mod Laws
+pub mod Rows
 pub mod Refusals
 pub mod RefusalSteps
 pub mod Room

@@ -4,7 +4,7 @@ use mathlib.Core.Bool.{true}
 use mathlib.Core.List.{List}
 use Prim.Native.Nat.{ℕ, _/_, _<_}
 use lib.IntN.{ℤ, pos, natAbs}
-use lib.ListN.{getD}
+use lib.ListN.{length, getD}
 use Rattle.numbers.specs.Within.{Within}
 use Rattle.vectors.specs.Agree.{agreeing}
 
@@ -15,6 +15,6 @@ placeOf p = natAbs p / 1125899906842624
 pub record Marks (near : List ℕ) (tolerance : ℕ) (q : ℤ) : Type 0 where
   pub marked : (p : ℤ) → Within 3000000000000000000 p → agreeing q p tolerance ≡ true → getD near (placeOf p) 0 ≡ 1
 
--- and so for each of the first products
-pub record AllMarked (near : List ℕ) (products : List ℤ) (count tolerance : ℕ) : Type 0 where
-  pub each : (j : ℕ) → j < count → Marks near tolerance (getD products j (pos 0))
+-- and so for each of the products
+pub record AllMarked (near : List ℕ) (products : List ℤ) (tolerance : ℕ) : Type 0 where
+  pub each : (k : ℕ) → k < length products → Marks near tolerance (getD products k (pos 0))

@@ -1,4 +1,4 @@
--- `votes::mark` meets its contract. The loop's invariant: what was marked still is, and so are the places from the first on and below k. Assumes nothing.
+-- `votes::near::mark` meets its contract. The loop's invariant: what was marked still is, and so are the places from the first on and below k. Assumes nothing.
 use mathlib.Core.Path.{_≡_, ap, _∙_}
 use mathlib.Core.Bool.{true}
 use Prim.Native.Nat.{ℕ, _+_, _-_, _≤_, _<_}
@@ -15,8 +15,8 @@ use Rattle.vectors.specs.Agree.{agreeing}
 use Rattle.votes.specs.Near.{placeOf}
 use Rattle.votes.specs.NearLaws.{near-size}
 use Rattle.votes.proofs.Store.{still-marked}
-use Rattle.votes.proofs.mark.Statement.{statement}
-use Rattle.votes.proofs.mark.Tie as tie
+use Rattle.votes.proofs.near.mark.Statement.{statement}
+use Rattle.votes.proofs.near.mark.Tie as tie
 
 abbrev Inv-loop : tie.InvT-loop
 Inv-loop near₀ q tolerance size end k₀ near k =

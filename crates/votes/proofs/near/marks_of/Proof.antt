@@ -1,4 +1,4 @@
--- `votes::marks_of` meets its contract. The loop's invariant: the places of all that agrees with one of the first j products are marked. Assumes nothing.
+-- `votes::near::marks_of` meets its contract. The loop's invariant: the places of all that agrees with one of the first k products are marked. Assumes nothing.
 use mathlib.Core.Path.{_≡_, subst, _∙_}
 use Prim.Native.Nat.{ℕ, _-_, _≤_, _<_}
 use native.Mathlib.Omega.{arith}
@@ -10,19 +10,19 @@ use mir.Syntax.{w64}
 use Rattle.numbers.specs.Num.{Num, arg, back, near}
 use Rattle.votes.specs.Near.{Marks}
 use Rattle.votes.specs.NearLaws.{marks-more}
-use Rattle.votes.proofs.marks_of.Statement.{statement}
-use Rattle.votes.proofs.marks_of.Tie as tie
+use Rattle.votes.proofs.near.marks_of.Statement.{statement}
+use Rattle.votes.proofs.near.marks_of.Tie as tie
 
 abbrev Inv-loop : tie.InvT-loop
-Inv-loop products count tolerance near₀ j₀ near j =
-    (j ≤ count) × (length near ≡ 2665) × ((m : ℕ) → m < j → Marks near tolerance (getD products m (pos 0)))
+Inv-loop products tolerance near₀ k₀ near k =
+    (k ≤ length products) × (length near ≡ 2665) × ((m : ℕ) → m < k → Marks near tolerance (getD products m (pos 0)))
 
 abbrev μ-loop : tie.MeasureT-loop
-μ-loop products count tolerance near₀ j₀ near j = count - j
+μ-loop products tolerance near₀ k₀ near k = length products - k
 
--- the product of direction j
+-- product k
 abbrev product : tie.Start Inv-loop μ-loop → ℕ → Num w64
-product s j = arg (s .pre .1 .at j) tt
+product s k = arg (s .pre .at k) tt
 
 loop-holds : tie.Need-loop-holds Inv-loop μ-loop
 loop-holds c = (search needs, search needs, below-none _)
@@ -39,10 +39,10 @@ shared-slice-copy-out-mark c = search needs
 mark-requires : tie.Need-mark-requires Inv-loop μ-loop
 mark-requires c κs =
     let o = c .before .before .before in
-    (o .loop .inv .1, near (product (o .before) (o .loop .j)) tt)
+    (o .loop .inv .1, near (product (o .before) (o .loop .k)) tt)
 
-add-j : tie.Need-add-j Inv-loop μ-loop
-add-j c = search needs
+add-k : tie.Need-add-k Inv-loop μ-loop
+add-k c = search needs
 
 loop-less : tie.Need-loop-less Inv-loop μ-loop
 loop-less c = search needs
@@ -56,11 +56,11 @@ loop-again c =
       omega arith,
       d .kept .0 ∙ l .inv .1,
       below-more _ _ (λ m h. marks-more _ _ (x .tolerance) _ (d .ensures .0) (l .inv .2 m h))
-          (subst (Marks (d .last .0) (x .tolerance)) (back (product s (l .j))) (d .ensures .1)),
+          (subst (Marks (d .last .0) (x .tolerance)) (back (product s (l .k))) (d .ensures .1)),
     )
 
 returns : tie.Need-returns Inv-loop μ-loop
-returns c = record { each = λ j h. c .before .loop .inv .2 j (omega arith) }
+returns c = record { each = λ k h. c .before .loop .inv .2 k (omega arith) }
 
 pub marks-of-spec : {M : Type 1} → statement M
 marks-of-spec =
@@ -73,7 +73,7 @@ marks-of-spec =
     mul-mark
     shared-slice-copy-out-mark
     mark-requires
-    add-j
+    add-k
     loop-less
     loop-again
     returns)
