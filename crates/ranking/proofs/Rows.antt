@@ -5,26 +5,9 @@ use Prim.Native.Nat.{ℕ, _+_, _*_, _-_, _≤_, _<_}
 use native.Mathlib.Nat.{suc-mul, zero-mul, mul-le-mul-right}
 use native.Mathlib.Numerals.{add-one}
 use native.Mathlib.Omega.{arith}
-use lib.IntN.{ℤ}
 use lib.ListN.{length, take, drop, length-append, length-take, length-drop}
 use lib.Seq.{take-at, drop-append-add, drop-drop}
-use Rattle.sorting.specs.Laws.{ordered-ext}
-use Rattle.vectors.specs.Triples.{triples}
-use Rattle.votes.specs.Votes.{votesOf, countersOf}
-use Rattle.votes.specs.Laws.{counter-within}
-use Rattle.ranking.specs.Row.{every, votesAt, rowBy}
-use Rattle.ranking.specs.Ranking.{rowOf, rowsOf}
 use Rattle.ranking.specs.Rows.{rowAt, rowsBy, rows-by-length}
-use Rattle.ranking.specs.Laws.{rows-length}
-
--- the row by the counters of direction i is the row of direction i
-pub row-by-counters : (directions stars : List ℤ) (tolerance i m : ℕ) → m ≡ triples stars → triples stars ≤ 512
-    → rowBy (countersOf directions stars tolerance i) m ≡ rowOf directions stars tolerance i
-unfolding rowBy rowOf
-row-by-counters directions stars tolerance i m e most =
-    rw e
-    (ordered-ext every (votesAt (countersOf directions stars tolerance i)) (votesOf directions stars tolerance i) (triples stars)
-    (λ k h. counter-within directions stars tolerance i k h most))
 
 -- a row has its place in the room
 pub row-fits : (d m i : ℕ) → i < d → i * m + m ≤ d * m
@@ -39,36 +22,16 @@ back-length room part a k h e =
     let m = mid-length room a k h in
     simp (length-append, length-take, length-drop) (omega arith)
 
-module _ (directions stars : List ℤ) (tolerance : ℕ) (first : List ℕ) where
-  abbrev rows : ℕ → List ℕ
-  rows = rowsOf directions stars tolerance
-
-  pub rows-none : first ≡ rows 0 ++ drop (0 * triples stars) first
-  unfolding rowsOf
+module _ (votes : List ℕ) (m : ℕ) (first : List ℕ) where
+  pub rows-none : first ≡ rowsBy votes m 0 ++ drop (0 * m) first
+  unfolding rowsBy
   rows-none = rw zero-mul
 
   -- one row more: the part of the room that is direction i's is written
-  pub rows-more : (room row : List ℕ) (i : ℕ) → let m = triples stars in room ≡ rows i ++ drop (i * m) first → row ≡ rowOf directions stars tolerance i
-      → take (i * m) room ++ (row ++ drop (i * m + m - i * m) (drop (i * m) room)) ≡ rows (i + 1) ++ drop ((i + 1) * m) first
-  unfolding rowsOf
-  rows-more room row i e f =
-      let m = triples stars in
-      let k : i * m + m - i * m ≡ m = omega arith in
-      let l = rows-length directions stars tolerance i in
-      let p = take-at (rows i) (drop (i * m) first) (i * m) l in
-      let q : drop (i * m + m) (rows i ++ drop (i * m) first) ≡ drop (i * m + m) first = rw (← l, drop-append-add, drop-drop) in
-      rw (f, k, e, p, drop-drop, q, add-one, suc-mul, append-assoc)
-
-module _ (votes : List ℕ) (m : ℕ) (first : List ℕ) where
-  pub rows-by-none : first ≡ rowsBy votes m 0 ++ drop (0 * m) first
-  unfolding rowsBy
-  rows-by-none = rw zero-mul
-
-  -- one row more: the part of the room that is direction i's is written
-  pub rows-by-more : (room row : List ℕ) (i : ℕ) → room ≡ rowsBy votes m i ++ drop (i * m) first → row ≡ rowAt votes m i
+  pub rows-more : (room row : List ℕ) (i : ℕ) → room ≡ rowsBy votes m i ++ drop (i * m) first → row ≡ rowAt votes m i
       → take (i * m) room ++ (row ++ drop (i * m + m - i * m) (drop (i * m) room)) ≡ rowsBy votes m (i + 1) ++ drop ((i + 1) * m) first
   unfolding rowsBy
-  rows-by-more room row i e f =
+  rows-more room row i e f =
       let k : i * m + m - i * m ≡ m = omega arith in
       let l = rows-by-length votes m i in
       let p = take-at (rowsBy votes m i) (drop (i * m) first) (i * m) l in

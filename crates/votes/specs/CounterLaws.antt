@@ -7,12 +7,15 @@ use native.Mathlib.Nat.{zero-mul, mul-zero}
 use native.Mathlib.Omega.{arith}
 use borrow.Author.Tests.{eq-eqb, ne-eqb}
 use lib.Dec.{eqb}
+use lib.IntN.{ℤ}
 use lib.ListN.{length, getD, set, replicate, length-set, length-replicate, List·getD-eq-default}
 use lib.Seq.{getD-set-same, getD-set-other}
 use Rattle.counting.specs.Number.{one}
+use Rattle.vectors.specs.Triples.{triples}
+use Rattle.votes.specs.Votes.{countersOf}
 use Rattle.votes.specs.Sums.{sumTo, sum-next}
 use Rattle.votes.specs.Given.{oneVote}
-use Rattle.votes.specs.Counters.{counterAt, Counters, Grown}
+use Rattle.votes.specs.Counters.{counterAt, Counters, Grown, Counted}
 
 pub at-zeros : {A : Type 0} (z : A) (n k : ℕ) → getD (replicate n z) k z ≡ z
 at-zeros z zero k = List·getD-eq-default [] z {n = k} (omega arith)
@@ -66,3 +69,16 @@ looser c l = record { sized = c .sized; below = λ k. omega (arith, c .below k) 
 pub grown-below : {f : ℕ → ℕ → ℕ} {x y : List ℕ} {a : ℕ} (b m : ℕ) → Counters a x → Grown f x y → ((i s : ℕ) → f i s ≤ m) → a + m ≤ b → Counters b y
 grown-below b m c g h l =
     record { sized = g .sized ∙ c .sized; below = λ k. omega (arith, c .below k, g .by k, h (k / 512) (k % 512)) }
+
+-- counters that were 0 and have grown by the votes hold them
+pub counted : (directions stars : List ℤ) (tolerance : ℕ) (f : ℕ → ℕ → ℕ) (before votes : List ℕ)
+    → ((i s : ℕ) → i < triples directions → s < 512 → f i s ≡ getD (countersOf directions stars tolerance i) s 0)
+    → Counters 0 before → Grown f before votes → Counted directions stars tolerance votes
+counted directions stars tolerance f before votes e c g =
+    record {
+      each = λ i s h l.
+          let q : (512 * i + s) / 512 ≡ i = omega arith in
+          let r : (512 * i + s) % 512 ≡ s = omega arith in
+          let t : f ((512 * i + s) / 512) ((512 * i + s) % 512) ≡ f i s = λ k. f (q k) (r k) in
+          omega (arith, g .by (512 * i + s), c .below (512 * i + s), t, e i s h l);
+    }

@@ -1,5 +1,5 @@
 -- Each pair of numbers looked at once, the higher first, gives something to both: what one number then has from all pairs. Assumes nothing.
-use mathlib.Core.Bool.{cond}
+use mathlib.Core.Bool.{Bool, true, false, cond, _&&_}
 use mathlib.Core.Path.{_≡_, refl, sym, ap, _∙_}
 use Prim.Native.Nat.{ℕ, zero, suc, _+_, _*_, _≤_, _<_}
 use native.Mathlib.Decide.{ℕ-discrete, decLt}
@@ -7,10 +7,10 @@ use native.Mathlib.Nat.{zero-mul, one-mul}
 use native.Mathlib.Omega.{arith}
 use borrow.Author.Tests.{lt-ltb, le-ltb, eq-eqb, ne-eqb}
 use lib.Dec.{ltb, eqb}
-use Rattle.counting.specs.Number.{one}
+use Rattle.counting.specs.Number.{one, number}
 use Rattle.counting.specs.NumberLaws.{one-most}
 use Rattle.votes.specs.Votes.{other}
-use Rattle.votes.specs.Sums.{sumTo, sum-same}
+use Rattle.votes.specs.Sums.{sumTo, sum-same, number-sum}
 
 -- how often c is one of a and b
 unfoldable pub either : ℕ → ℕ → ℕ → ℕ
@@ -19,6 +19,10 @@ either c a b = one (eqb c a) + one (eqb c b)
 pub either-most : (c a b : ℕ) → either c a b ≤ 2
 unfolding either
 either-most c a b = omega (arith, one-most (eqb c a), one-most (eqb c b))
+
+pub either-comm : (c a b : ℕ) → either c a b ≡ either c b a
+unfolding either
+either-comm c a b = omega arith
 
 -- w a b is what the pair of a and b gives
 module _ (w : ℕ → ℕ → ℕ) (c : ℕ) where
@@ -77,3 +81,14 @@ module _ (w : ℕ → ℕ → ℕ) (c : ℕ) where
           rw (lt-ltb c (suc n) (omega arith)) (omega (arith, rw (le-ltb c n (omega arith)) at i))
       go (no l) (no e) i =
           rw (le-ltb c (suc n) (omega arith)) (omega (arith, rw (le-ltb c n (omega arith)) at i, row-below n n (omega arith) e))
+
+-- each pair that passes a test gives one
+pub each-passing : (w : ℕ → ℕ → Bool) (c : ℕ) → ((a b : ℕ) → w a b ≡ w b a) → (n : ℕ)
+    → sumTo n (λ a. sumTo a (λ b. either c a b * one (w a b))) ≡ cond (ltb c n) (number n (λ b. other b c && w c b)) 0
+each-passing w c s n =
+    each-pair (λ a b. one (w a b)) c (λ a b. ap one (s a b)) n
+    ∙ ap (λ (m : ℕ). cond (ltb c n) m 0) (sum-same n _ _ (λ b l. joined (other b c) (w c b)) ∙ sym (number-sum n _))
+  where
+    joined : (t u : Bool) → cond t (one u) 0 ≡ one (t && u)
+    joined true u = refl
+    joined false u = refl

@@ -2,7 +2,7 @@
 use mathlib.Core.Bool.{Bool, true, false, cond, _&&_, and-false}
 use mathlib.Core.Path.{_≡_, refl, sym, ap, _∙_}
 use mathlib.Core.List.{List}
-use Prim.Native.Nat.{ℕ, _+_, _*_, _/_, _%_, _≤_, _<_}
+use Prim.Native.Nat.{ℕ, _+_, _*_, _≤_, _<_}
 use native.Mathlib.Nat.{mul-add, add-mul, mul-comm, mul-one, mul-zero, mul-le-mul}
 use native.Mathlib.Omega.{arith}
 use borrow.Author.Tests.{lt-ltb}
@@ -16,9 +16,8 @@ use Rattle.vectors.specs.Laws.{pair-comm}
 use Rattle.vectors.specs.Triples.{triples, pairDot}
 use Rattle.votes.specs.Votes.{other, isVote, votesOf, countersOf}
 use Rattle.votes.specs.Laws.{firsts-at}
-use Rattle.votes.specs.Sums.{sumTo, sum-same, sum-times, sum-bound, number-sum, pairs-sum}
-use Rattle.votes.specs.Each.{either, either-most, gives, has, each-pair}
-use Rattle.votes.specs.Counters.{Counters, Grown, Counted}
+use Rattle.votes.specs.Sums.{sumTo, sum-same, sum-times, sum-bound, pairs-sum}
+use Rattle.votes.specs.Each.{either, either-most, each-pair, each-passing}
 use Rattle.votes.specs.Given.{oneVote, fourVotes, given, rowGiven, pairGiven, starGiven, allGiven}
 
 pub one-vote-most : (i a d s : ℕ) → oneVote i a d s ≤ 1
@@ -94,23 +93,16 @@ module _ (directions stars : List ℤ) (tolerance d : ℕ) where
     pair-is : (p : ℤ) (a b s : ℕ) → pairGiven (pairDot directions) tolerance (triples directions) p a b d s ≡ either s a b * between p
     unfolding pairGiven rowGiven given fourVotes agrees between
     pair-is p a b s =
-        sum-same n _ _ (λ j l. sum-same j _ _ (λ i m. turned (agrees p j i) (either d j i) (either s a b)) ∙ sum-times j (either s a b) (gives w d j))
+        sum-same n _ _ (λ j l. sum-same j _ _ (λ i m. turned (agrees p j i) (either d j i) (either s a b)) ∙ sum-times j (either s a b) (λ i. either d j i * one (agrees p j i)))
         ∙ sum-times n (either s a b) _
-        ∙ ap (λ (m : ℕ). either s a b * m) (each-pair w d (λ j i. ap (λ (q : ℤ). one (agreeing q p tolerance)) (pair-comm directions j i)) n ∙ rw (lt-ltb d n h) (sum-same n _ _ (λ j l. joined (other j d) (agrees p d j)) ∙ sym (number-sum n _)))
+        ∙ ap (λ (m : ℕ). either s a b * m) (each-passing (agrees p) d (λ j i. ap (λ (q : ℤ). agreeing q p tolerance) (pair-comm directions j i)) n ∙ rw (lt-ltb d n h))
       where
         n : ℕ
         n = triples directions
 
-        w : ℕ → ℕ → ℕ
-        w j i = one (agrees p j i)
-
         turned : (t : Bool) (x y : ℕ) → cond t (x * y) 0 ≡ y * (x * one t)
         turned true x y = mul-comm x y ∙ ap (λ (z : ℕ). y * z) (sym (mul-one x))
         turned false x y = sym (ap (λ (z : ℕ). y * z) (mul-zero x) ∙ mul-zero y)
-
-        joined : (t u : Bool) → cond t (one u) 0 ≡ one (t && u)
-        joined true u = refl
-        joined false u = refl
 
     -- the votes of star s
     votes-are : (s : ℕ) → sumTo (triples stars) (λ b. cond (other b s) (between (pairDot stars s b)) 0) ≡ votesOf directions stars tolerance d s
@@ -141,15 +133,3 @@ module _ (directions stars : List ℤ) (tolerance d : ℕ) where
       all-same product (pairDot directions) tolerance (triples directions) stars d s e
       ∙ all-votes h s
       ∙ sym (firsts-at 512 _ s l)
-
--- counters that were 0 and have grown by that are the votes
-pub counted : (directions stars : List ℤ) (tolerance : ℕ) (product : ℕ → ℕ → ℤ) (before votes : List ℕ) → ((j i : ℕ) → i < j → j < triples directions → product j i ≡ pairDot directions j i)
-    → Counters 0 before → Grown (allGiven product tolerance (triples directions) stars) before votes → Counted directions stars tolerance votes
-counted directions stars tolerance product before votes e c g =
-    record {
-      each = λ i s h l.
-          let q : (512 * i + s) / 512 ≡ i = omega arith in
-          let r : (512 * i + s) % 512 ≡ s = omega arith in
-          let t : allGiven product tolerance (triples directions) stars ((512 * i + s) / 512) ((512 * i + s) % 512) ≡ allGiven product tolerance (triples directions) stars i s = λ k. allGiven product tolerance (triples directions) stars (q k) (r k) in
-          omega (arith, g .by (512 * i + s), c .below (512 * i + s), t, all-given directions stars tolerance i product e h s l);
-    }

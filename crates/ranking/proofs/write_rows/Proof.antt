@@ -6,7 +6,7 @@ use native.Mathlib.Omega.{arith}
 use borrow.Author.Needs.{needs}
 use lib.ListN.{length, take, drop}
 use Rattle.ranking.specs.Rows.{rowAt, rowsBy}
-use Rattle.ranking.proofs.Rows.{row-fits, rows-by-none, rows-by-more, mid-length, back-length}
+use Rattle.ranking.proofs.Rows.{row-fits, rows-none, rows-more, mid-length, back-length}
 use Rattle.ranking.proofs.write_rows.Statement.{statement}
 use Rattle.ranking.proofs.write_rows.Tie as tie
 
@@ -36,7 +36,7 @@ sized c =
     mid-length (c .before .loop .room) n (n + m - n) (omega arith) ∙ k
 
 loop-holds : tie.Need-loop-holds Inv-loop μ-loop
-loop-holds c = (search needs, refl, rows-by-none _ _ _)
+loop-holds c = (search needs, refl, rows-none _ _ _)
 
 mul-from : tie.Need-mul-from Inv-loop μ-loop
 mul-from c = omega (arith, fits c)
@@ -78,7 +78,7 @@ loop-again c =
     let w = c .before .before .write-row in (
       omega arith,
       back-length (p .loop .room) (w .last .1 .1 .0) n (n + m - n) (omega arith) (w .kept .1 .1 .0) ∙ p .loop .inv .1,
-      rows-by-more (a .votes .now) m (a .room .now) (p .loop .room) (w .last .1 .1 .0) (p .loop .i) (p .loop .inv .2)
+      rows-more (a .votes .now) m (a .room .now) (p .loop .room) (w .last .1 .1 .0) (p .loop .i) (p .loop .inv .2)
           (w .ensures ∙ ap (λ (k : ℕ). rowAt (a .votes .now) k (p .loop .i)) (sized q)),
     )
 

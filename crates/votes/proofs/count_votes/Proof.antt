@@ -7,9 +7,9 @@ use borrow.Author.Tests.{lt-ltb}
 use Rattle.vectors.specs.Triples.{triples, pairDot}
 use Rattle.votes.specs.Sums.{sumTo, sum-bound}
 use Rattle.votes.specs.Counters.{Grown}
-use Rattle.votes.specs.CounterLaws.{grown-start, grown-next, grown-same, grown-below}
+use Rattle.votes.specs.CounterLaws.{grown-start, grown-next, grown-same, grown-below, counted}
 use Rattle.votes.specs.Given.{productOf, productAt, starGiven, allGiven}
-use Rattle.votes.specs.GivenLaws.{star-most, counted}
+use Rattle.votes.specs.GivenLaws.{star-most, all-given}
 use Rattle.votes.proofs.count_votes.Statement.{statement}
 use Rattle.votes.proofs.count_votes.Tie as tie
 
@@ -111,7 +111,9 @@ returns c =
     let s = d .before .before in
     let x = s .args in
     let e : l .a ≡ triples (x .stars .now) = omega arith in
-    counted (x .directions .now) (x .stars .now) (x .tolerance) (productAt (d .products-of .result)) (x .votes .now) (l .votes) (products d) (s .pre .1 .1)
+    counted (x .directions .now) (x .stars .now) (x .tolerance) (allGiven (productAt (d .products-of .result)) (x .tolerance) (triples (x .directions .now)) (x .stars .now)) (x .votes .now) (l .votes)
+    (λ i t h k. all-given (x .directions .now) (x .stars .now) (x .tolerance) i (productAt (d .products-of .result)) (products d) h t k)
+    (s .pre .1 .1)
     (grown-same _ (l .inv .1) (λ i t. ap (λ (n : ℕ). sumTo n (λ m. gives d m i t)) e))
 
 pub count-votes-spec : {M : Type 1} → statement M
