@@ -1,2 +1,3 @@
 -- The laws that the proofs of `ranking` cite.
 pub mod Rows
+pub mod Levels

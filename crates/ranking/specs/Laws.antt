@@ -1,5 +1,5 @@
 -- What a ranking by votes is: each row names each star exactly once, by falling votes, equal ones by rising number. Assumes nothing.
-use mathlib.Core.Path.{_≡_, refl, sym, ap, subst, _∙_}
+use mathlib.Core.Path.{_≡_, sym, ap, subst, _∙_}
 use mathlib.Core.Logic.{⊎-elim}
 use mathlib.Core.List.{List, _++_}
 use Prim.Native.Nat.{ℕ, zero, suc, _+_, _*_, _≤_, _<_}
@@ -9,18 +9,13 @@ use native.Mathlib.Omega.{arith}
 use lib.IntN.{ℤ}
 use lib.ListN.{length, getD, length-append, List·getD-append}
 use lib.Seq.{getD-append-add}
-use Rattle.sorting.specs.Order.{ordered}
-use Rattle.sorting.specs.Laws.{count, each-once, below-all, in-order, put-length, Ahead, InOrder}
+use Rattle.sorting.specs.Laws.{count, each-once, below-all, in-order, Ahead, InOrder}
 use Rattle.vectors.specs.Triples.{triples}
 use Rattle.votes.specs.Votes.{votesOf}
 use Rattle.ranking.specs.Row.{every}
 use Rattle.ranking.specs.Ranking.{rowOf, rowsOf, rankingOf}
 use Rattle.ranking.specs.Places.{all-at, counted-at, ahead-at, order-once}
-
-pub every-length : (key : ℕ → ℕ) (m : ℕ) → length (ordered every key m) ≡ m
-unfolding ordered
-every-length key zero = refl
-every-length key (suc m) = put-length key m (ordered every key m) ∙ ap suc (every-length key m)
+use Rattle.ranking.specs.RowPlaces.{every-length}
 
 -- words of `stars` a row: each row names each star exactly once
 pub record Ranks (directions stars : ℕ) (words : List ℕ) : Type 0 where

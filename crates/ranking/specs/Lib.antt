@@ -2,6 +2,8 @@
 pub mod Row
 pub mod Ranking
 pub mod Places
+pub mod RowPlaces
+pub mod Levels
 pub mod Laws
 pub mod Rows
 pub mod Refusals
