@@ -9,13 +9,13 @@ use native.Mathlib.Omega.{arith}
 use lib.IntN.{ℤ}
 use lib.ListN.{length, getD, length-append, List·getD-append}
 use lib.Seq.{getD-append-add}
-use Rattle.sorting.specs.Laws.{count, each-once, below-all, in-order, Ahead, InOrder}
+use Rattle.sorting.specs.Laws.{count, each-once, in-order, Ahead, InOrder}
 use Rattle.vectors.specs.Triples.{triples}
 use Rattle.votes.specs.Votes.{votesOf}
 use Rattle.ranking.specs.Row.{every}
 use Rattle.ranking.specs.Ranking.{rowOf, rowsOf, rankingOf}
-use Rattle.ranking.specs.Places.{all-at, counted-at, ahead-at, order-once}
-use Rattle.ranking.specs.RowPlaces.{every-length}
+use Rattle.ranking.specs.Places.{counted-at, ahead-at, order-once}
+use Rattle.ranking.specs.RowPlaces.{every-length, every-below}
 
 -- words of `stars` a row: each row names each star exactly once
 pub record Ranks (directions stars : ℕ) (words : List ℕ) : Type 0 where
@@ -35,10 +35,7 @@ module _ (directions stars : List ℤ) (tolerance : ℕ) where
 
   pub row-below : (i k : ℕ) → k < triples stars → wordOf i k < triples stars
   unfolding rowOf
-  row-below i k h =
-      all-at (λ s. s < triples stars) (rowOf directions stars tolerance i)
-      (below-all every (votesOf directions stars tolerance i) (triples stars) (triples stars) (omega arith))
-      k (omega (arith, row-length i))
+  row-below i k h = every-below (votesOf directions stars tolerance i) (triples stars) k h
 
   -- each star exactly once
   pub row-count : (i s : ℕ) → s < triples stars → count s (rowOf directions stars tolerance i) ≡ 1
