@@ -1,3 +1,4 @@
 -- The laws that proofs above cite.
 pub mod Rules
 pub mod Turns
+mod Beside

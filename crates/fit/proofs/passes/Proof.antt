@@ -1,134 +1,61 @@
--- `fit::passes` meets its contract. The invariant: each star from place j on is another, and agrees. Assumes nothing.
+-- `fit::passes` meets its contract: the test beside the newest star, and then that beside the words before it. Assumes nothing.
 use borrow.Author.Needs.{needs}
 use borrow.Author.Tests.{not-true, not-false}
-use mathlib.Core.Path.{_≡_, refl, sym, subst, _∙_}
-use mathlib.Core.Bool.{Bool, true}
-use mathlib.Core.List.{List}
-use mathlib.Core.Logic.{⊎-elim, inl, inr}
-use Prim.Native.Nat.{ℕ, _≤_, _<_, _-_}
-use native.Mathlib.Omega.{arith}
-use lib.IntN.{ℤ, pos}
-use lib.ListN.{getD}
+use mathlib.Core.Path.{_≡_, sym, _∙_}
+use mathlib.Core.Bool.{Bool}
 use mir.Syntax.{w64}
-use Rattle.numbers.specs.Within.{Within}
-use Rattle.numbers.specs.Num.{kept}
+use Rattle.numbers.specs.Num.{arg, back, kept}
 use Rattle.vectors.specs.Agree.{agreeing}
-use Rattle.vectors.specs.Triples.{pairDot}
-use Rattle.assignment.specs.Order.{at}
-use Rattle.assignment.proofs.Fit.{pairs-false, pairs-of}
-use Rattle.fit.specs.Fit.{besides}
-use Rattle.assignment.proofs.Tests.{eq-or}
+use Rattle.vectors.specs.Vectors.{dotOf}
+use Rattle.vectors.specs.Triples.{tripleAt}
+use Rattle.vectors.specs.Laws.{triple-within}
+use Rattle.fit.proofs.Beside.{itself, disagrees, goes-on}
 use Rattle.fit.proofs.passes.Statement.{statement}
 use Rattle.fit.proofs.passes.Tie as tie
 
--- what the test said of the word that was read
-told : {y z : ℤ} (stars : List ℤ) (t s a b : ℕ) {r v : Bool} → y ≡ z → r ≡ agreeing y (pairDot stars a s) t → a ≡ b → r ≡ v → agreeing z (pairDot stars b s) t ≡ v
-told stars t s a b d h e q = (λ k. agreeing (sym d k) (pairDot stars (sym e k) s) t) ∙ sym h ∙ q
+returns : tie.Need-returns
+returns c = itself _ _ _ _ _ _ _ (c .if1 .taken)
 
--- the star of place q is another, and agrees
-abbrev Beside : List ℤ → ℕ → ℕ → List ℕ → List ℤ → ℕ → ℕ → Type 0
-Beside stars count tolerance chosen dots star q =
-    at chosen q < count → (at chosen q ≡ star → ⊥) × (agreeing (getD dots q (pos 0)) (pairDot stars (at chosen q) star) tolerance ≡ true)
+triple-at-requires : tie.Need-triple-at-requires
+triple-at-requires c κs = search needs
 
-abbrev Inv-loop : tie.InvT-loop
-Inv-loop stars count tolerance chosen dots i star j₀ j = (j ≤ i) × ((q : ℕ) → q < i → j ≤ q → Beside stars count tolerance chosen dots star q)
+dot-requires : tie.Need-dot-requires
+dot-requires c κs =
+    let o : tie.Start = search needs in
+    (o .pre .0 .near-place, rw (c .triple-at .ensures) (triple-within (o .pre .0 .tested .near-stars) (o .args .star)))
 
-abbrev μ-loop : tie.MeasureT-loop
-μ-loop stars count tolerance chosen dots i star j₀ j = j
+agree-requires : tie.Need-agree-requires
+agree-requires c κs = search needs
 
--- one place more
-more : (P : ℕ → Type 0) (i j : ℕ) → ((q : ℕ) → q < i → j ≤ q → P q) → P (j - 1) → (q : ℕ) → q < i → j - 1 ≤ q → P q
-more P i j h p q l m = ⊎-elim (λ (e : q ≡ j - 1). subst P (sym e) p) (λ (d : q ≡ j - 1 → ⊥). h q l (omega arith)) (eq-or q (j - 1))
+-- what was said beside the newest star
+said : (c : tie.After-agree) (v : Bool) → c .agree .result ≡ v →
+    let a = c .before .before .before .before .before .before .before .before .args in
+    agreeing (a .newest .dot) (dotOf (a .newest .place) (tripleAt (a .stars .now) (a .star))) (a .tolerance) ≡ v
+said c v e =
+    let o = c .before .before .before .before .before .before .before .before in
+    let d = c .before .dot in
+    let t = c .before .before .triple-at in
+    sym (c .agree .ensures ∙ (λ k. agreeing (back (arg {w = w64} (o .pre .0 .near-dot) tt) k) (kept w64 (d .ok) (d .ensures .0 ∙ (λ i. dotOf (o .args .newest .place) (t .ensures i))) k) (o .args .tolerance))) ∙ e
 
-loop-holds : tie.Need-loop-holds Inv-loop μ-loop
-loop-holds c = (omega arith, λ q l m. absurd (omega arith))
+returns-2 : tie.Need-returns-2
+returns-2 c = disagrees _ _ _ _ _ _ _ (said (c .before) _ (not-true (c .before .agree .result) (c .if2 .taken)))
 
-sub-j : tie.Need-sub-j Inv-loop μ-loop
-sub-j c = omega arith
+stands-beside-requires : tie.Need-stands-beside-requires
+stands-beside-requires c κs = search needs
 
-mul-index : tie.Need-mul-index Inv-loop μ-loop
-mul-index c = omega (arith, c .before .before .before .good .1 .1 .1 .0 .1)
-
-shared-slice-read-index : tie.Need-shared-slice-read-index Inv-loop μ-loop
-shared-slice-read-index c = omega arith
-
-index-requires : tie.Need-index-requires Inv-loop μ-loop
-index-requires c κs = search needs
-
-returns : tie.Need-returns Inv-loop μ-loop
-unfolding besides
-returns c = sym (pairs-false _ _ _ _ _ (c .before .before .before .before .before .loop .j - 1) (omega arith) (omega arith) (inl (omega arith)))
-
-mul-agrees : tie.Need-mul-agrees Inv-loop μ-loop
-mul-agrees c = omega (arith, c .before .before .before .before .before .before .before .good .1 .1 .1 .1 .0 .1)
-
-shared-slice-copy-out-agrees : tie.Need-shared-slice-copy-out-agrees Inv-loop μ-loop
-shared-slice-copy-out-agrees c = omega arith
-
-agrees-requires : tie.Need-agrees-requires Inv-loop μ-loop
-agrees-requires c κs =
-    let l = c .before .before .before .before .before .before in
-    let t = l .before .before .pre .0 in
-    (subst (Within 3000000000000000000) (sym (kept w64 (c .agrees-arg .given) refl)) (t .near-dots .at (l .loop .j - 1)), ((omega arith, omega arith), t .near-stars))
-
--- what `agrees` said of the word at j
-said : (c : tie.After-agrees Inv-loop μ-loop) (v : Bool) → c .agrees .result ≡ v →
-    let l = c .before .before .before .before .before .before .before in
-    let a = l .before .before .args in
-    agreeing (getD (a .dots .now) (l .loop .j - 1) (pos 0)) (pairDot (a .stars .now) (at (a .chosen .now) (l .loop .j - 1)) (a .star)) (a .tolerance) ≡ v
-said c v e = told _ _ _ _ _ (kept w64 (c .before .agrees-arg .given) refl) (c .agrees .ensures) (c .before .before .before .before .index .ensures) e
-
-returns-2 : tie.Need-returns-2 Inv-loop μ-loop
-unfolding besides
-returns-2 c =
-    let l = c .before .before .before .before .before .before .before .before in
-    sym (pairs-false _ _ _ _ _ (l .loop .j - 1) (omega arith) (omega arith) (inr (said (c .before) _ (not-true (c .before .agrees .result) (c .if3 .taken)))))
-
-loop-less : tie.Need-loop-less Inv-loop μ-loop
-loop-less c = omega arith
-
-loop-again : tie.Need-loop-again Inv-loop μ-loop
-loop-again c =
-    let l = c .before .before .before .before .before .before .before .before in
-    let a = l .before .before .args in (
-      omega arith,
-      more (Beside (a .stars .now) (a .count) (a .tolerance) (a .chosen .now) (a .dots .now) (a .star)) (a .i) (l .loop .j) (l .loop .inv .1)
-          (λ _. (λ e. c .before .before .before .if2 .left (omega arith), said (c .before) _ (not-false (c .before .agrees .result) (c .if3 .left)))),
-    )
-
-loop-less-2 : tie.Need-loop-less-2 Inv-loop μ-loop
-loop-less-2 c = omega arith
-
-loop-again-2 : tie.Need-loop-again-2 Inv-loop μ-loop
-loop-again-2 c =
-    let l = c .before .before .before .before in
-    let a = l .before .before .args in (
-      omega arith,
-      more (Beside (a .stars .now) (a .count) (a .tolerance) (a .chosen .now) (a .dots .now) (a .star)) (a .i) (l .loop .j) (l .loop .inv .1) (λ h. absurd (omega arith)),
-    )
-
-returns-3 : tie.Need-returns-3 Inv-loop μ-loop
-unfolding besides
-returns-3 c = sym (pairs-of _ _ _ _ _ (λ q l. c .before .loop .inv .1 q l (omega arith)))
+returns-3 : tie.Need-returns-3
+returns-3 c =
+    let g = c .before .before in
+    c .stands-beside .ensures ∙ goes-on _ _ _ _ _ _ _ (g .before .before .before .if1 .left) (said g _ (not-false (g .agree .result) (c .before .if2 .left)))
 
 pub passes-spec : {M : Type 1} → statement M
 passes-spec =
     tie.close
     (tie.spec
-    Inv-loop
-    μ-loop
-    loop-holds
-    sub-j
-    mul-index
-    shared-slice-read-index
-    index-requires
     returns
-    mul-agrees
-    shared-slice-copy-out-agrees
-    agrees-requires
+    triple-at-requires
+    dot-requires
+    agree-requires
     returns-2
-    loop-less
-    loop-again
-    loop-less-2
-    loop-again-2
+    stands-beside-requires
     returns-3)
