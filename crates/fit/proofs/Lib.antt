@@ -2,3 +2,4 @@
 pub mod Rules
 pub mod Turns
 mod Beside
+mod SpanLaws

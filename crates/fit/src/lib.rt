@@ -1,5 +1,6 @@
 // The rule of fit: whether a star may stand at a direction beside the words before it. Another rule changes this crate.
 pub mod mirror;
+pub mod span;
 
 use vectors::Vec3;
 ghost use mathlib.Core.Path.{_≡_};
@@ -50,7 +51,7 @@ pub fn measured(directions: &[i32], i: usize, n: usize) -> [i64; 8]
 }
 
 // Whether a dot product of two directions agrees with that of the stars a and b.
-pub fn agrees(dot: i64, stars: &[i32], tolerance: u64, a: usize, b: usize) -> bool
+fn agrees(dot: i64, stars: &[i32], tolerance: u64, a: usize, b: usize) -> bool
     requires { ⌜ Within 3000000000000000000 dot ⌝ }
     requires { ⌜ (3 * a + 3 ≤ length (now stars)) × (3 * b + 3 ≤ length (now stars)) ⌝ }
     requires { ⌜ AllWithin 1000000000 (now stars) ⌝ }
@@ -134,8 +135,7 @@ pub fn passes(
     if newest.star == star {
         return false;
     }
-    let product = vectors::dot(place, vectors::triple_at(stars, star));
-    if !vectors::agree(dot, product, tolerance) {
+    if !span::agrees_with(dot, place, stars, tolerance, star) {
         return false;
     }
     stands_beside(stars, count, tolerance, chosen, dots, newest.before, star)
