@@ -95,16 +95,16 @@ pub fn newest_of(stars: &[i32], count: usize, chosen: &[u16], dots: &[i64], i: u
     requires { ⌜ Tested (now stars) count (now chosen) (now dots) i ⌝ }
     ensures { λ r. ⌜ NewestOf (now (stars .entry)) count (now (chosen .entry)) (now (dots .entry)) i r ⌝ }
 {
-    let mut j = i;
-    while 0 < j {
-        j -= 1;
-        let star = index(chosen[j]);
+    let mut k = i;
+    while 0 < k {
+        k -= 1;
+        let star = index(chosen[k]);
         if star < count {
             return Newest {
-                before: j,
+                before: k,
                 star: star,
                 place: vectors::triple_at(stars, star),
-                dot: dots[j],
+                dot: dots[k],
             };
         }
     }

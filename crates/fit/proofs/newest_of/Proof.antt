@@ -1,4 +1,4 @@
--- `fit::newest_of` meets its contract. The invariant: no word from place j on is a star. Assumes nothing.
+-- `fit::newest_of` meets its contract. The invariant: no word from place k on is a star. Assumes nothing.
 use borrow.Author.Needs.{needs}
 use mathlib.Core.Path.{_≡_, refl, ap, _∙_}
 use mathlib.Core.Logic.{⊎-elim}
@@ -15,16 +15,16 @@ use Rattle.fit.proofs.newest_of.Statement.{statement}
 use Rattle.fit.proofs.newest_of.Tie as tie
 
 abbrev Inv-loop : tie.InvT-loop
-Inv-loop stars count chosen dots i j₀ j = (j ≤ i) × ((q : ℕ) → q < i → j ≤ q → count ≤ at chosen q)
+Inv-loop stars count chosen dots i k₀ k = (k ≤ i) × ((q : ℕ) → q < i → k ≤ q → count ≤ at chosen q)
 
 abbrev μ-loop : tie.MeasureT-loop
-μ-loop stars count chosen dots i j₀ j = j
+μ-loop stars count chosen dots i k₀ k = k
 
 loop-holds : tie.Need-loop-holds Inv-loop μ-loop
 loop-holds c = (omega arith, λ q l m. absurd (omega arith))
 
-sub-j : tie.Need-sub-j Inv-loop μ-loop
-sub-j c = omega arith
+sub-k : tie.Need-sub-k Inv-loop μ-loop
+sub-k c = omega arith
 
 mul-index : tie.Need-mul-index Inv-loop μ-loop
 mul-index c = let o : tie.Start Inv-loop μ-loop = search needs in omega (arith, o .good .1 .1 .0 .1, o .pre .words)
@@ -50,7 +50,7 @@ returns c =
     let l = c .before .before .before .before .before .before in
     let o = l .before .before in
     let e = c .before .before .before .index .ensures in
-    newest-at _ _ _ _ (o .args .i) (l .loop .j - 1) _ (o .pre) (omega arith) (omega arith) (λ q lq m. l .loop .inv .1 q lq (omega arith))
+    newest-at _ _ _ _ (o .args .i) (l .loop .k - 1) _ (o .pre) (omega arith) (omega arith) (λ q lq m. l .loop .inv .1 q lq (omega arith))
     refl e (p .ensures ∙ ap (tripleAt (o .args .stars .now)) e) (kept w64 (c .t15 .given) refl)
 
 loop-less : tie.Need-loop-less Inv-loop μ-loop
@@ -60,7 +60,7 @@ loop-again : tie.Need-loop-again Inv-loop μ-loop
 loop-again c =
     let l = c .before .before .before .before in
     let a = l .before .before .args in
-    (omega arith, λ q lq m. ⊎-elim (λ (e : q ≡ l .loop .j - 1). rw e (omega (arith, c .before .index .ensures))) (λ (d : q ≡ l .loop .j - 1 → ⊥). l .loop .inv .1 q lq (omega arith)) (eq-or q (l .loop .j - 1)))
+    (omega arith, λ q lq m. ⊎-elim (λ (e : q ≡ l .loop .k - 1). rw e (omega (arith, c .before .index .ensures))) (λ (d : q ≡ l .loop .k - 1 → ⊥). l .loop .inv .1 q lq (omega arith)) (eq-or q (l .loop .k - 1)))
 
 returns-2 : tie.Need-returns-2 Inv-loop μ-loop
 returns-2 c =
@@ -74,7 +74,7 @@ newest-of-spec =
     Inv-loop
     μ-loop
     loop-holds
-    sub-j
+    sub-k
     mul-index
     shared-slice-read-index
     index-requires
