@@ -1,6 +1,6 @@
 -- Two directions get the same votes. Assumes nothing.
 use mathlib.Core.Path.{_≡_, ap, _∙_}
-use Prim.Native.Nat.{ℕ, _+_, _*_, _≤_}
+use Prim.Native.Nat.{ℕ, _*_, _≤_}
 use native.Mathlib.Nat.{mul-zero, mul-le-mul}
 use Rattle.votes.specs.Sums.{sumTo, sum-times}
 use Rattle.votes.specs.Each.{either, either-most}

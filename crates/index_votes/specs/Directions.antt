@@ -1,33 +1,30 @@
 -- The votes for a direction as a sum over the other directions, each by a span around its dot product. Assumes nothing.
-use mathlib.Core.Bool.{Bool, true, false, cond, not, _&&_}
+use mathlib.Core.Bool.{Bool, true, false, cond, _&&_}
 use mathlib.Core.Path.{_≡_, refl, sym, ap, _∙_}
 use mathlib.Core.List.{List}
-use Prim.Native.Nat.{ℕ, zero, suc, _+_, _*_, _-_, _/_, _≤_, _<_}
+use Prim.Native.Nat.{ℕ, zero, suc, _+_, _/_, _≤_, _<_}
 use native.Mathlib.Decide.{ℕ-discrete, decLt}
 use native.Mathlib.Omega.{arith}
 use borrow.Author.Tests.{lt-ltb, le-ltb}
-use lib.Dec.{ltb, eqb}
+use lib.Dec.{ltb}
 use lib.IntN.{ℤ, pos, negsuc}
 use lib.ListN.{length, getD}
-use mir.Syntax.{w64}
-use mir.Val.{SFits}
 use Rattle.numbers.specs.Within.{Within}
 use Rattle.vectors.specs.Triples.{triples, Listed, pairDot}
 use Rattle.vectors.specs.Agree.{agreeing}
-use Rattle.vectors.specs.Laws.{pair-within, pair-comm}
+use Rattle.vectors.specs.Laws.{pair-comm}
 use Rattle.counting.specs.Number.{one, number, pairs}
 use Rattle.counting.specs.NumberLaws.{number-none, number-most}
 use Rattle.votes.specs.Votes.{other, isVote, votesOf, countersOf}
 use Rattle.votes.specs.Laws.{counter-within, counter-beyond}
 use Rattle.votes.specs.Sums.{sumTo, sum-same, sum-bound, number-sum}
 use Rattle.votes.specs.Each.{each-pair}
-use Rattle.index_records.specs.Format.{highAt, lowAt, keyAt, encoded}
+use Rattle.index_records.specs.Format.{highAt, encoded}
 use Rattle.index_records.specs.Order.{sorted}
 use Rattle.index_records.specs.Read.{Bytes, low-most}
 use Rattle.index.specs.Raised.{raised}
 use Rattle.index.specs.Index.{pairsOf}
 use Rattle.index.specs.IndexSteps.{pairs-most}
-use Rattle.index.specs.KeyLaws.{dot-fits}
 use Rattle.index.specs.Check.{RecordOk}
 use Rattle.index.specs.CheckLaws.{index-size, ok-all}
 use Rattle.index_votes.specs.Span.{Usable}

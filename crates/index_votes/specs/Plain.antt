@@ -1,39 +1,37 @@
 -- The votes of a span of the index are the votes by the plain rule, for one pair of directions. Assumes nothing.
-use mathlib.Core.Bool.{Bool, true, false, cond, not, _&&_}
+use mathlib.Core.Bool.{Bool, true, false, cond, _&&_}
 use mathlib.Core.Path.{_≡_, refl, sym, ap, _∙_}
 use mathlib.Core.List.{List, [], _∷_, _++_}
 use Prim.Native.Nat.{ℕ, zero, suc, _+_, _*_, _-_, _/_, _%_, _≤_, _<_}
-use native.Mathlib.Decide.{ℕ-discrete, decLt, decLe}
+use native.Mathlib.Decide.{decLe}
 use native.Mathlib.Nat.{add-zero, mul-one, mul-zero}
 use native.Mathlib.Omega.{arith}
-use borrow.Author.Tests.{ltb-true, lt-ltb, le-ltb, eq-eqb, ne-eqb, le-leb, lt-leb}
-use lib.Dec.{ltb, leb, eqb}
+use borrow.Author.Tests.{lt-leb}
+use lib.Dec.{ltb, leb}
 use lib.IntN.{ℤ}
 use lib.ListN.{length, getD}
 use mir.Syntax.{w64}
 use mir.Val.{SFits}
 use Rattle.vectors.specs.Triples.{triples, Listed, pairDot}
 use Rattle.vectors.specs.Laws.{pair-comm}
-use Rattle.vectors.specs.Agree.{agreeing}
-use Rattle.counting.specs.Number.{one, number}
+use Rattle.counting.specs.Number.{one}
 use Rattle.counting.specs.NumberLaws.{number-same}
 use Rattle.votes.specs.Votes.{other}
 use Rattle.votes.specs.Sums.{sumTo, sum-same}
 use Rattle.votes.specs.Each.{either, either-comm, each-passing}
-use Rattle.index_records.specs.Format.{highAt, lowAt, keyFrom, keyAt, encoded}
+use Rattle.index_records.specs.Format.{highAt, lowAt, keyFrom, encoded}
 use Rattle.index_records.specs.Order.{insert, sorted}
-use Rattle.index_records.specs.OrderLaws.{sorted-length, sorted-all}
+use Rattle.index_records.specs.OrderLaws.{sorted-all}
 use Rattle.index_records.specs.Gap.{Holds}
 use Rattle.index_records.specs.Carry.{holds-length, holds-key}
 use Rattle.index_records.specs.Read.{Bytes, low-most}
 use Rattle.sorting.specs.Laws.{by-test}
 use Rattle.index.specs.Raised.{raised}
-use Rattle.index.specs.Index.{collected, keyOf, entryOf, rowOf, pairsOf, indexOf}
-use Rattle.index.specs.IndexSteps.{entry-taken, entry-left, index-is}
+use Rattle.index.specs.Index.{collected, keyOf, entryOf, rowOf, pairsOf}
+use Rattle.index.specs.IndexSteps.{entry-taken, entry-left}
 use Rattle.index.specs.KeyLaws.{dot-fits, pairs-keys}
 use Rattle.index_votes.specs.Span.{named, given, spanVotes, meets, inSpan, rowVotes, allVotes}
 use Rattle.index_votes.specs.Pair.{pairVotes, plainVotes}
-use Rattle.index_votes.specs.SpanLaws.{given-below}
 use Rattle.index_votes.specs.Near.{agree-span}
 
 -- ---- sums over a list

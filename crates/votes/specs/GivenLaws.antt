@@ -9,7 +9,7 @@ use borrow.Author.Tests.{lt-ltb}
 use lib.Dec.{ltb, eqb}
 use lib.IntN.{ℤ}
 use lib.ListN.{getD}
-use Rattle.counting.specs.Number.{one, number, pairs}
+use Rattle.counting.specs.Number.{one, number}
 use Rattle.counting.specs.NumberLaws.{one-most, number-none}
 use Rattle.vectors.specs.Agree.{agreeing}
 use Rattle.vectors.specs.Laws.{pair-comm}

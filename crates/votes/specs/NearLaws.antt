@@ -1,10 +1,13 @@
--- Products that agree are near each other in size, and a product whose place is not marked agrees with none. Assumes nothing.
+-- Products that agree are near each other, and a product whose place is not marked agrees with none. Assumes nothing.
 use mathlib.Core.Path.{_≡_, refl, sym, ap, _∙_}
 use mathlib.Core.Bool.{Bool, true, false}
 use mathlib.Core.List.{List}
-use Prim.Native.Nat.{ℕ, _+_, _*_, _≤_, _<_}
+use Prim.Native.Nat.{ℕ, suc, _+_, _*_, _≤_, _<_}
 use native.Mathlib.Omega.{arith}
-use lib.IntN.{ℤ, pos, natAbs, negℤ, _+ℤ_, _-ℤ_, -ℤ-+ℤ-cancel, negℤ-+ℤ, negℤ-negℤ, +ℤ-comm}
+use borrow.Author.Tests.{le-ltb}
+use lib.Dec.{T}
+use lib.IntN.{ℤ, pos, negsuc, natAbs, negℤ, _+ℤ_, _-ℤ_, +ℤ-assoc, -ℤ-+ℤ-cancel, negℤ-+ℤ, negℤ-negℤ, +ℤ-comm}
+use lib.Signed.{nonNeg}
 use lib.ListN.{length, getD}
 use Rattle.numbers.specs.Abs.{abs-add, abs-neg}
 use Rattle.numbers.specs.Within.{Within}
@@ -12,21 +15,31 @@ use Rattle.vectors.specs.Agree.{agreeing, agreeing-near}
 use Rattle.votes.specs.Sums.{sum-none}
 use Rattle.votes.specs.Given.{productAt, given, rowGiven, pairGiven}
 use Rattle.votes.specs.GivenLaws.{given-apart}
-use Rattle.votes.specs.Near.{placeOf, Marks, AllMarked}
+use Rattle.votes.specs.Near.{liftedOf, placeOf, Marks, AllMarked}
 
--- the size of a number is at most that of another and of their difference
-apart : (p q : ℤ) → natAbs q ≤ natAbs (q -ℤ p) + natAbs p
-apart p q = omega (arith, abs-add (q -ℤ p) p, ap natAbs (-ℤ-+ℤ-cancel q p))
+-- a product lies at most as high as another and their difference
+apart : (p q : ℤ) → liftedOf q ≤ natAbs (q -ℤ p) + liftedOf p
+apart p q =
+    let c = pos 3000000000000000000 in
+    omega (arith, abs-add (q -ℤ p) (p +ℤ c), ap natAbs (sym (+ℤ-assoc (q -ℤ p) p c) ∙ ap (λ (z : ℤ). z +ℤ c) (-ℤ-+ℤ-cancel q p)))
 
 turned : (p q : ℤ) → natAbs (p -ℤ q) ≡ natAbs (q -ℤ p)
 turned p q =
     sym (abs-neg (p -ℤ q))
     ∙ ap natAbs (negℤ-+ℤ p (negℤ q) ∙ ap (λ (z : ℤ). negℤ p +ℤ z) (negℤ-negℤ q) ∙ +ℤ-comm (negℤ p) q)
 
-pub near-size : (p q : ℤ) (t : ℕ) → agreeing q p t ≡ true → (natAbs q ≤ natAbs p + t) × (natAbs p ≤ natAbs q + t)
-near-size p q t e =
+pub near-lifted : (p q : ℤ) (t : ℕ) → agreeing q p t ≡ true → (liftedOf q ≤ liftedOf p + t) × (liftedOf p ≤ liftedOf q + t)
+near-lifted p q t e =
     let d = agreeing-near q p t e in
     (omega (arith, apart p q), omega (arith, apart q p, turned p q))
+
+pub lifted-most : {p : ℤ} → Within 3000000000000000000 p → liftedOf p ≤ 6000000000000000000
+lifted-most {p} h = omega (arith, abs-add p (pos 3000000000000000000), h .within)
+
+-- it has no sign then
+pub lifted-sign : {p : ℤ} → Within 3000000000000000000 p → T (nonNeg (p +ℤ pos 3000000000000000000))
+lifted-sign {p = pos n} h = tt
+lifted-sign {p = negsuc n} h = rw (le-ltb 3000000000000000000 (suc n) (h .within)) tt
 
 -- a table in which more is marked
 pub marks-more : (a b : List ℕ) (t : ℕ) (q : ℤ) → ((k : ℕ) → getD a k 0 ≡ 1 → getD b k 0 ≡ 1) → Marks a t q → Marks b t q

@@ -103,7 +103,7 @@ fn vote_star(
 )
     requires { ⌜ (count ≤ 8) × (length (now products) ≡ 64) ⌝ }
     requires { ⌜ AllWithin 3000000000000000000 (now products) ⌝ }
-    requires { ⌜ length (now near) ≡ 2665 ⌝ }
+    requires { ⌜ length (now near) ≡ 5330 ⌝ }
     requires { ⌜ AllMarked (now near) (now products) tolerance ⌝ }
     requires { ⌜ Listed 512 (now stars) ⌝ }
     requires { ⌜ a < triples (now stars) ⌝ }

@@ -4,48 +4,56 @@ ghost use Prim.Native.Nat.{ℕ, _+_, _-_, _/_, _≤_};
 ghost use lib.ListN.{getD, length};
 ghost use Rattle.numbers.specs.Within.{Within};
 ghost use Rattle.vectors.specs.Triples.{AllWithin};
-ghost use Rattle.votes.specs.Near.{placeOf, Marks, AllMarked};
+ghost use Rattle.votes.specs.Near.{liftedOf, placeOf, Marks, AllMarked};
 
-// The place of a product by its size.
-fn place(size: u64) -> usize
-    requires { ⌜ size ≤ 3000000000000000000 ⌝ }
-    ensures { λ r. ⌜ r ≡ size / 1125899906842624 ⌝ }
+// A product moved up by the greatest size that it can have, so that it has no sign.
+fn lift(p: i64) -> u64
+    requires { ⌜ Within 3000000000000000000 p ⌝ }
+    ensures { λ r. ⌜ r ≡ liftedOf p ⌝ }
 {
-    (size / 1125899906842624) as usize
+    (p + 3000000000000000000) as u64
 }
 
-// The least size of a number that is at most the tolerance away from one of this size.
-fn least(size: u64, tolerance: u64) -> u64
-    ensures { λ r. ⌜ r ≡ size - tolerance ⌝ }
+// The place of a lifted product.
+fn place(lifted: u64) -> usize
+    requires { ⌜ lifted ≤ 6000000000000000000 ⌝ }
+    ensures { λ r. ⌜ r ≡ lifted / 1125899906842624 ⌝ }
 {
-    if tolerance < size {
-        return size - tolerance;
+    (lifted / 1125899906842624) as usize
+}
+
+// The least lifted product that is at most the tolerance away from this one.
+fn least(lifted: u64, tolerance: u64) -> u64
+    ensures { λ r. ⌜ r ≡ lifted - tolerance ⌝ }
+{
+    if tolerance < lifted {
+        return lifted - tolerance;
     }
     0
 }
 
-// The greatest, or the greatest size that a product has.
-fn greatest(size: u64, tolerance: u64) -> u64
-    requires { ⌜ size ≤ 3000000000000000000 ⌝ }
-    ensures { λ r. ⌜ r ≤ 3000000000000000000 ⌝ }
-    ensures { λ r. ⌜ ((n : ℕ) → n ≤ 3000000000000000000 → n ≤ size + tolerance → n ≤ r) ⌝ }
+// The greatest.
+fn greatest(lifted: u64, tolerance: u64) -> u64
+    requires { ⌜ lifted ≤ 6000000000000000000 ⌝ }
+    ensures { λ r. ⌜ r ≤ 6000000000000000000 ⌝ }
+    ensures { λ r. ⌜ ((n : ℕ) → n ≤ 6000000000000000000 → n ≤ lifted + tolerance → n ≤ r) ⌝ }
 {
-    if tolerance < 3000000000000000000 - size {
-        return size + tolerance;
+    if tolerance < 6000000000000000000 - lifted {
+        return lifted + tolerance;
     }
-    3000000000000000000
+    6000000000000000000
 }
 
 // Marks the places of all products that agree with q.
 fn mark(near: &mut [u8], q: i64, tolerance: u64)
-    requires { ⌜ length (now near) ≡ 2665 ⌝ }
+    requires { ⌜ length (now near) ≡ 5330 ⌝ }
     requires { ⌜ Within 3000000000000000000 q ⌝ }
     ensures { λ r. ⌜ ((k : ℕ) → getD (now (near .entry)) k 0 ≡ 1 → getD (now (near .exit)) k 0 ≡ 1) ⌝ }
     ensures { λ r. ⌜ Marks (now (near .exit)) tolerance q ⌝ }
 {
-    let size = numbers::abs(q);
-    let end = place(greatest(size, tolerance));
-    let mut k = place(least(size, tolerance));
+    let lifted = lift(q);
+    let end = place(greatest(lifted, tolerance));
+    let mut k = place(least(lifted, tolerance));
     while k <= end {
         near[k] = 1;
         k += 1;
@@ -53,11 +61,11 @@ fn mark(near: &mut [u8], q: i64, tolerance: u64)
 }
 
 // A table in which the places of all products that agree with one of these are marked.
-pub(crate) fn marks_of(products: &[i64], tolerance: u64) -> [u8; 2665]
+pub(crate) fn marks_of(products: &[i64], tolerance: u64) -> [u8; 5330]
     requires { ⌜ AllWithin 3000000000000000000 (now products) ⌝ }
     ensures { λ r. ⌜ AllMarked r (now (products .entry)) tolerance ⌝ }
 {
-    let mut near = [0u8; 2665];
+    let mut near = [0u8; 5330];
     let mut k: usize = 0;
     while k < products.len() {
         mark(&mut near, products[k], tolerance);
@@ -68,9 +76,9 @@ pub(crate) fn marks_of(products: &[i64], tolerance: u64) -> [u8; 2665]
 
 // The mark at the place of p: 0 where nothing agrees with it.
 pub(crate) fn mark_at(near: &[u8], p: i64) -> u8
-    requires { ⌜ length (now near) ≡ 2665 ⌝ }
+    requires { ⌜ length (now near) ≡ 5330 ⌝ }
     requires { ⌜ Within 3000000000000000000 p ⌝ }
     ensures { λ r. ⌜ r ≡ getD (now (near .entry)) (placeOf p) 0 ⌝ }
 {
-    near[place(numbers::abs(p))]
+    near[place(lift(p))]
 }

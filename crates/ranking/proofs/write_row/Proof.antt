@@ -1,5 +1,4 @@
 -- `ranking::write_row` meets its contract: the row goes by the direction's stretch of the counters. Assumes nothing.
-use mathlib.Core.List.{List}
 use mathlib.Core.Path.{_≡_, ap, _∙_}
 use Prim.Native.Nat.{ℕ, _+_, _-_, _*_}
 use native.Mathlib.Omega.{arith}

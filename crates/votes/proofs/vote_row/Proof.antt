@@ -1,7 +1,7 @@
 -- `votes::vote_row` meets its contract. The loop's invariant: the counters have grown by what the first i directions give. Assumes nothing.
 use mathlib.Core.Path.{_≡_, sym, _∙_}
 use mathlib.Core.Logic.{⊎-elim}
-use Prim.Native.Nat.{ℕ, _≤_, _<_, _-_, _+_, _*_}
+use Prim.Native.Nat.{ℕ, _≤_, _-_, _+_, _*_}
 use native.Mathlib.Omega.{arith}
 use borrow.Author.Needs.{needs}
 use mir.Syntax.{w64}
@@ -9,7 +9,7 @@ use mir.Val.{toZ, ofZ}
 use Rattle.numbers.specs.Num.{Num, arg, back, near}
 use Rattle.vectors.specs.Agree.{agreeing}
 use Rattle.votes.specs.Sums.{sumTo, sum-bound}
-use Rattle.votes.specs.Counters.{Counters, Grown}
+use Rattle.votes.specs.Counters.{Grown}
 use Rattle.votes.specs.CounterLaws.{grown-as, grown-start, grown-next, grown-still, grown-same, grown-below}
 use Rattle.votes.specs.Given.{productAt, given, rowGiven}
 use Rattle.votes.specs.GivenLaws.{given-agree, given-apart, given-most}

@@ -9,7 +9,7 @@ use mir.Syntax.{w64}
 use mir.Val.{toZ, ofZ}
 use Rattle.numbers.specs.Num.{arg, kept, near}
 use Rattle.vectors.specs.Vectors.{dotOf}
-use Rattle.vectors.specs.Triples.{triples, tripleAt, pairDot}
+use Rattle.vectors.specs.Triples.{pairDot}
 use Rattle.vectors.specs.Laws.{triple-within}
 use Rattle.votes.specs.Sums.{sumTo, sum-bound}
 use Rattle.votes.specs.Counters.{Grown}

@@ -5,41 +5,41 @@ use Prim.Native.Nat.{ℕ, _+_, _-_, _≤_, _<_}
 use native.Mathlib.Omega.{arith}
 use borrow.Author.Count.{below-more}
 use borrow.Author.Needs.{needs}
-use lib.IntN.{ℤ, natAbs}
+use lib.IntN.{ℤ}
 use lib.ListN.{length, getD, length-set}
 use lib.Seq.{getD-set-same}
 use mir.Syntax.{w64}
-use Rattle.numbers.specs.Num.{arg, back}
+use Rattle.numbers.specs.Num.{arg, back, near}
 use Rattle.numbers.specs.Within.{Within}
 use Rattle.vectors.specs.Agree.{agreeing}
-use Rattle.votes.specs.Near.{placeOf}
-use Rattle.votes.specs.NearLaws.{near-size}
+use Rattle.votes.specs.Near.{liftedOf, placeOf}
+use Rattle.votes.specs.NearLaws.{near-lifted, lifted-most}
 use Rattle.votes.proofs.Store.{still-marked}
 use Rattle.votes.proofs.near.mark.Statement.{statement}
 use Rattle.votes.proofs.near.mark.Tie as tie
 
 abbrev Inv-loop : tie.InvT-loop
-Inv-loop near₀ q tolerance size end k₀ near k =
-    (length near ≡ 2665)
-    × (end < 2665)
+Inv-loop near₀ q tolerance lifted end k₀ near k =
+    (length near ≡ 5330)
+    × (end < 5330)
     × ((m : ℕ) → getD near₀ m 0 ≡ 1 → getD near m 0 ≡ 1)
     × ((m : ℕ) → m < k → k₀ ≤ m → getD near m 0 ≡ 1)
 
 abbrev μ-loop : tie.MeasureT-loop
-μ-loop near₀ q tolerance size end k₀ near k = end + 1 - k
+μ-loop near₀ q tolerance lifted end k₀ near k = end + 1 - k
 
--- the size of q, as the body holds it
-size : (c : tie.After-abs Inv-loop μ-loop) → (c .abs .result ≡ natAbs (c .before .before .args .q)) × (c .abs .result ≤ 3000000000000000000)
-size c =
+-- q lifted, as the body holds it
+height : (c : tie.After-lift Inv-loop μ-loop) → (c .lift .result ≡ liftedOf (c .before .before .args .q)) × (c .lift .result ≤ 6000000000000000000)
+height c =
     let h = c .before .before .pre .1 in
-    let e = c .abs .ensures ∙ ap natAbs (back (arg {w = w64} h tt)) in
-    (e, omega (arith, e, h .within))
+    let e = c .lift .ensures ∙ ap liftedOf (back (arg {w = w64} h tt)) in
+    (e, omega (arith, e, lifted-most h))
 
-abs-requires : tie.Need-abs-requires Inv-loop μ-loop
-abs-requires c κs = search needs
+lift-requires : tie.Need-lift-requires Inv-loop μ-loop
+lift-requires c κs = near (arg {w = w64} (c .before .pre .1) tt) tt
 
 greatest-requires : tie.Need-greatest-requires Inv-loop μ-loop
-greatest-requires c κs = size c .1
+greatest-requires c κs = height c .1
 
 place-requires : tie.Need-place-requires Inv-loop μ-loop
 place-requires c κs = c .greatest .ensures .0
@@ -48,7 +48,7 @@ least-requires : tie.Need-least-requires Inv-loop μ-loop
 least-requires c κs = search needs
 
 place-requires-2 : tie.Need-place-requires-2 Inv-loop μ-loop
-place-requires-2 c κs = omega (arith, c .least .ensures, size (c .before .before .before) .1)
+place-requires-2 c κs = omega (arith, c .least .ensures, height (c .before .before .before) .1)
 
 loop-holds : tie.Need-loop-holds Inv-loop μ-loop
 loop-holds c =
@@ -89,9 +89,9 @@ reached c p h e =
     let o = c .before .before in
     let a = o .before .before .before .before in
     let x = a .before .before .args in
-    let b = size a .0 in
-    let n = near-size p (x .q) (x .tolerance) e in
-    let g = o .before .before .before .greatest .ensures .1 (natAbs p) (h .within) (omega (arith, b, n)) in
+    let b = height a .0 in
+    let n = near-lifted p (x .q) (x .tolerance) e in
+    let g = o .before .before .before .greatest .ensures .1 (liftedOf p) (lifted-most h) (omega (arith, b, n)) in
     let u = o .place2 .ensures in
     let v = o .before .least .ensures in
     let w = o .before .before .place .ensures in
@@ -108,7 +108,7 @@ mark-spec =
     (tie.spec
     Inv-loop
     μ-loop
-    abs-requires
+    lift-requires
     greatest-requires
     place-requires
     least-requires

@@ -15,7 +15,7 @@ use Rattle.votes.proofs.near.marks_of.Tie as tie
 
 abbrev Inv-loop : tie.InvT-loop
 Inv-loop products tolerance near₀ k₀ near k =
-    (k ≤ length products) × (length near ≡ 2665) × ((m : ℕ) → m < k → Marks near tolerance (getD products m (pos 0)))
+    (k ≤ length products) × (length near ≡ 5330) × ((m : ℕ) → m < k → Marks near tolerance (getD products m (pos 0)))
 
 abbrev μ-loop : tie.MeasureT-loop
 μ-loop products tolerance near₀ k₀ near k = length products - k
