@@ -2,11 +2,11 @@
 use mathlib.Core.Bool.{Bool, true, false, _&&_}
 use mathlib.Core.Path.{_≡_}
 use mathlib.Core.List.{List, [], _∷_}
-use Prim.Native.Nat.{ℕ, suc, _/_, _%_, _≤_, _<_}
+use Prim.Native.Nat.{ℕ, zero, suc, _/_, _%_, _≤_, _<_}
 use lib.Dec.{eqb}
 use lib.IntN.{ℤ}
 use Rattle.vectors.specs.Triples.{triples, pairDot}
-use Rattle.index_records.specs.Format.{highAt, lowAt, keyAt}
+use Rattle.index_records.specs.Format.{highAt, lowAt, keyFrom, keyAt}
 use Rattle.index.specs.Raised.{raised}
 use Rattle.index.specs.Index.{indexOf}
 
@@ -36,6 +36,15 @@ pub record PairOk (stars : List ℤ) (floor high low : ℕ) : Type 0 where
   pub is : high ≡ raised (pairDot stars (low / 65536) (low % 65536))
 
 -- and the key is above the one before
-pub record RecordOk (stars : List ℤ) (floor : ℕ) (bytes : List ℕ) (i : ℕ) : Type 0 where
-  pub pair : PairOk stars floor (highAt bytes i) (lowAt bytes i)
-  pub rises : (j : ℕ) → suc j ≡ i → keyAt bytes j < keyAt bytes i
+pub record Follows (stars : List ℤ) (floor before high low : ℕ) : Type 0 where
+  pub pair : PairOk stars floor high low
+  pub rises : before < keyFrom high low
+
+-- the key before record i; before the first it is 0, which is below every pair's
+abbrev pub keyBefore : List ℕ → ℕ → ℕ
+keyBefore bytes zero = 0
+keyBefore bytes (suc i) = keyAt bytes i
+
+-- record i follows the one before it
+abbrev pub RecordOk : List ℤ → ℕ → List ℕ → ℕ → Type 0
+RecordOk stars floor bytes i = Follows stars floor (keyBefore bytes i) (highAt bytes i) (lowAt bytes i)

@@ -4,13 +4,11 @@ use crate::key;
 use index_records::format;
 ghost use mathlib.Core.Bool.{true, false};
 ghost use mathlib.Core.Path.{_≡_};
-ghost use Prim.Native.Nat.{_+_, _*_, _≤_};
-ghost use lib.ListN.{length};
 ghost use Rattle.vectors.specs.Triples.{triples, Listed};
-ghost use Rattle.index_records.specs.Format.{encoded};
+ghost use Rattle.index_records.specs.Format.{keyFrom, encoded};
 ghost use Rattle.index_records.specs.Order.{sorted};
 ghost use Rattle.index.specs.Index.{pairsOf};
-ghost use Rattle.index.specs.Check.{Says, PairOk, RecordOk};
+ghost use Rattle.index.specs.Check.{Says, PairOk, Follows};
 
 // Whether a record's numbers are those of a pair, and its dot product the pair's.
 fn pair_ok(stars: &[i32], floor: u64, high: u64, low: u32) -> bool
@@ -34,27 +32,22 @@ fn pair_ok(stars: &[i32], floor: u64, high: u64, low: u32) -> bool
     true
 }
 
-// Whether record i keeps its rule.
-fn record_ok(stars: &[i32], floor: u64, index: &[u8], i: usize) -> bool
+// Whether a record keeps its rule behind one whose key has the two parts that come first.
+fn record_ok(
+    stars: &[i32],
+    floor: u64,
+    before_high: u64,
+    before_low: u32,
+    high: u64,
+    low: u32,
+) -> bool
     requires { ⌜ Listed 512 (now stars) ⌝ }
-    requires { ⌜ 12 * i + 12 ≤ length (now index) ⌝ }
-    ensures { λ r. ⌜ Says r (RecordOk (now (stars .entry)) floor (now (index .entry)) i) ⌝ }
+    ensures { λ r. ⌜ Says r (Follows (now (stars .entry)) floor (keyFrom «before_high» «before_low») high low) ⌝ }
 {
-    let high = format::high(index, i);
-    let low = format::low(index, i);
     if !pair_ok(stars, floor, high, low) {
         return false;
     }
-    if i == 0 {
-        return true;
-    }
-    let before = i - 1;
-    if !format::less(
-        format::high(index, before),
-        format::low(index, before),
-        high,
-        low,
-    ) {
+    if !format::less(before_high, before_low, high, low) {
         return false;
     }
     true
@@ -69,11 +62,17 @@ pub(crate) fn is_index(stars: &[i32], floor: u64, index: &[u8]) -> bool
     if index.len() != 12 * count {
         return false;
     }
+    let mut before_high: u64 = 0;
+    let mut before_low: u32 = 0;
     let mut i: usize = 0;
     while i < count {
-        if !record_ok(stars, floor, index, i) {
+        let high = format::high(index, i);
+        let low = format::low(index, i);
+        if !record_ok(stars, floor, before_high, before_low, high, low) {
             return false;
         }
+        before_high = high;
+        before_low = low;
         i += 1;
     }
     true

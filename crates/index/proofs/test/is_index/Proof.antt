@@ -1,20 +1,22 @@
--- `test::is_index` meets its contract. The loop's invariant: the first i records keep their rule. Assumes nothing.
-use mathlib.Core.Path.{_≡_, sym, ap, _∙_}
-use Prim.Native.Nat.{ℕ, _*_, _-_, _≤_, _<_}
+-- `test::is_index` meets its contract. The loop's invariant: the first i records keep their rule, and the last key is that of the one before. Assumes nothing.
+use mathlib.Core.Path.{_≡_, refl, sym, ap, _∙_}
+use Prim.Native.Nat.{ℕ, _+_, _*_, _-_, _≤_, _<_}
 use native.Mathlib.Omega.{arith}
 use borrow.Author.Count.{below-none, below-more}
 use borrow.Author.Tests.{not-true, not-false}
-use Rattle.index.specs.Check.{RecordOk}
-use Rattle.index.specs.CheckLaws.{says-yes, says-no, index-size, ok-all, all-ok}
+use Rattle.index_records.specs.Format.{keyFrom}
+use Rattle.index.specs.Check.{Says, keyBefore, RecordOk}
+use Rattle.index.specs.CheckLaws.{says-yes, says-no, says-as, before-next, index-size, ok-all, all-ok}
 use borrow.Author.Needs.{needs}
 use Rattle.index.proofs.test.is_index.Statement.{statement}
 use Rattle.index.proofs.test.is_index.Tie as tie
 
 abbrev Inv-loop : tie.InvT-loop
-Inv-loop stars floor index count i₀ i = (i ≤ count) × ((k : ℕ) → k < i → RecordOk stars floor index k)
+Inv-loop stars floor index count high₀ low₀ i₀ high low i =
+    (i ≤ count) × ((k : ℕ) → k < i → RecordOk stars floor index k) × (keyFrom high low ≡ keyBefore index i)
 
 abbrev μ-loop : tie.MeasureT-loop
-μ-loop stars floor index count i₀ i = count - i
+μ-loop stars floor index count high₀ low₀ i₀ high low i = count - i
 
 count-requires : tie.Need-count-requires Inv-loop μ-loop
 count-requires c κs = search needs
@@ -30,19 +32,33 @@ returns c =
     says-no (λ e. omega (arith, c .if1 .taken, k .count .ensures .0, index-size (x .stars .now) (x .floor) (x .index .now) (s .pre) (λ n. k .before .shared-slice-known .given n .fits) e))
 
 loop-holds : tie.Need-loop-holds Inv-loop μ-loop
-loop-holds c = (omega arith, below-none _)
+loop-holds c = (omega arith, below-none _, refl)
+
+high-requires : tie.Need-high-requires Inv-loop μ-loop
+high-requires c κs = search needs
+
+low-requires : tie.Need-low-requires Inv-loop μ-loop
+low-requires c κs = search needs
 
 record-ok-requires : tie.Need-record-ok-requires Inv-loop μ-loop
 record-ok-requires c κs = search needs
 
+-- what is known of record i
+ok-says : (c : tie.After-record-ok Inv-loop μ-loop)
+    → let l = c .before .before .before .before in let x = l .before .before .before .before .args in
+    Says (c .record-ok .result) (RecordOk (x .stars .now) (x .floor) (x .index .now) (l .loop .i))
+ok-says c =
+    let l = c .before .before .before .before in
+    says-as (l .loop .inv .2) (c .before .before .high .ensures) (c .before .low .ensures) (c .record-ok .ensures)
+
 returns-2 : tie.Need-returns-2 Inv-loop μ-loop
 returns-2 c =
     let r = c .before .record-ok in
-    let l = c .before .before .before in
+    let l = c .before .before .before .before .before in
     let k = l .before .before in
     let s = k .before .before in
     let x = s .args in
-    says-no (λ e. r .ensures .fails (not-true (r .result) (c .if2 .taken))
+    says-no (λ e. ok-says (c .before) .fails (not-true (r .result) (c .if2 .taken))
     (ok-all (x .stars .now) (x .floor) (x .index .now) (s .pre) (λ n. k .before .shared-slice-known .given n .fits) e (l .loop .i) (omega (arith, k .count .ensures .0))))
 
 add-i : tie.Need-add-i Inv-loop μ-loop
@@ -54,8 +70,11 @@ loop-less c = search needs
 loop-again : tie.Need-loop-again Inv-loop μ-loop
 loop-again c =
     let r = c .before .record-ok in
-    let l = c .before .before .before .loop in
-    (omega arith, below-more _ _ (l .inv .1) (r .ensures .holds (not-false (r .result) (c .if2 .left))))
+    let o = c .before .before in
+    let l = o .before .before .before in
+    let e : keyFrom (o .before .high .result) (o .low .result) ≡ keyBefore (l .before .before .before .before .args .index .now) (l .loop .i + 1) =
+    (λ i. keyFrom (o .before .high .ensures i) (o .low .ensures i)) ∙ sym (before-next _ (l .loop .i)) in
+    (omega arith, below-more _ _ (l .loop .inv .1) (ok-says (c .before) .holds (not-false (r .result) (c .if2 .left))), e)
 
 returns-3 : tie.Need-returns-3 Inv-loop μ-loop
 returns-3 c =
@@ -77,6 +96,8 @@ is-index-spec =
     mul-if1
     returns
     loop-holds
+    high-requires
+    low-requires
     record-ok-requires
     returns-2
     add-i
