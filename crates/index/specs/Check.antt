@@ -36,15 +36,17 @@ pub record PairOk (stars : List ℤ) (floor high low : ℕ) : Type 0 where
   pub is : high ≡ raised (pairDot stars (low / 65536) (low % 65536))
 
 -- and the key is above the one before
-pub record Follows (stars : List ℤ) (floor before high low : ℕ) : Type 0 where
-  pub pair : PairOk stars floor high low
-  pub rises : before < keyFrom high low
+pub record RecordOk (stars : List ℤ) (floor : ℕ) (bytes : List ℕ) (i : ℕ) : Type 0 where
+  pub pair : PairOk stars floor (highAt bytes i) (lowAt bytes i)
+  pub rises : (j : ℕ) → suc j ≡ i → keyAt bytes j < keyAt bytes i
+
+-- ---- the same of a record whose parts were read, behind a key
 
 -- the key before record i; before the first it is 0, which is below every pair's
 abbrev pub keyBefore : List ℕ → ℕ → ℕ
 keyBefore bytes zero = 0
 keyBefore bytes (suc i) = keyAt bytes i
 
--- record i follows the one before it
-abbrev pub RecordOk : List ℤ → ℕ → List ℕ → ℕ → Type 0
-RecordOk stars floor bytes i = Follows stars floor (keyBefore bytes i) (highAt bytes i) (lowAt bytes i)
+pub record Follows (stars : List ℤ) (floor before high low : ℕ) : Type 0 where
+  pub pair : PairOk stars floor high low
+  pub rises : before < keyFrom high low

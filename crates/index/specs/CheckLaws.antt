@@ -26,7 +26,7 @@ use Rattle.index.specs.Index.{keyOf, pairsOf, keysOf, indexOf}
 use Rattle.index.specs.IndexSteps.{index-is}
 use Rattle.index.specs.KeyLaws.{pairs-keys}
 use Rattle.index.specs.Pairs.{PairOf, pair-of, pair-once, pairs-rising}
-use Rattle.index.specs.Check.{equal, isIndex, Says, PairOk, Follows, keyBefore, RecordOk}
+use Rattle.index.specs.Check.{equal, isIndex, Says, PairOk, RecordOk, keyBefore, Follows}
 
 -- ---- tests
 
@@ -36,10 +36,8 @@ says-yes p = record { holds = λ _. p; fails = λ e _. contradiction (cc) }
 pub says-no : {P : Type 0} → (P → ⊥) → Says false P
 says-no f = record { holds = λ e. contradiction (cc); fails = λ _. f }
 
--- the same of the parts that a record was read to have
-pub says-as : {t : Bool} {stars : List ℤ} {floor before high low last other rest : ℕ} → before ≡ last → high ≡ other → low ≡ rest
-    → Says t (Follows stars floor before high low) → Says t (Follows stars floor last other rest)
-says-as {t} {stars} {floor} d e f p = subst (λ (s : Type 0). s) (λ i. Says t (Follows stars floor (d i) (e i) (f i))) p
+says-both : {t : Bool} {P Q : Type 0} → (P → Q) → (Q → P) → Says t P → Says t Q
+says-both f g p = record { holds = λ e. f (p .holds e); fails = λ e q. p .fails e (g q) }
 
 equal-true : (xs ys : List ℕ) → equal xs ys ≡ true → xs ≡ ys
 unfolding equal
@@ -73,9 +71,28 @@ module _ (stars : List ℤ) (floor : ℤ) (bytes : List ℕ) where
       go true e = absurd (f (index-true e))
       go false e = e
 
+-- ---- a record behind the key of the one before
+
 -- the key before the next record is this one's
 pub before-next : (bytes : List ℕ) (i : ℕ) → keyBefore bytes (i + 1) ≡ keyAt bytes i
 before-next bytes i = rw add-one
+
+module _ (stars : List ℤ) (floor : ℕ) (bytes : List ℕ) where
+  abbrev Read : ℕ → Type 0
+  Read i = Follows stars floor (keyBefore bytes i) (highAt bytes i) (lowAt bytes i)
+
+  ok-read : (i : ℕ) → Read i → RecordOk stars floor bytes i
+  ok-read zero f = record { pair = f .pair; rises = λ j e. absurd (omega arith) }
+  ok-read (suc i) f = record { pair = f .pair; rises = λ j e. let d : i ≡ j = omega arith in subst (λ (n : ℕ). keyAt bytes n < keyAt bytes (suc i)) d (f .rises) }
+
+  read-ok : (i : ℕ) → RecordOk stars floor bytes i → Read i
+  read-ok zero o = record { pair = o .pair; rises = omega (arith, o .pair .order) }
+  read-ok (suc i) o = record { pair = o .pair; rises = o .rises i refl }
+
+  -- what is said of the parts that were read is said of record i
+  pub says-record : {t : Bool} {before high low : ℕ} (i : ℕ) → before ≡ keyBefore bytes i → high ≡ highAt bytes i → low ≡ lowAt bytes i
+      → Says t (Follows stars floor before high low) → Says t (RecordOk stars floor bytes i)
+  says-record {t} i d e f p = says-both (ok-read i) (read-ok i) (subst (λ (s : Type 0). s) (λ k. Says t (Follows stars floor (d k) (e k) (f k))) p)
 
 -- ---- a key and its parts
 
@@ -132,7 +149,7 @@ module _ (stars : List ℤ) (floor : ℕ) (bytes : List ℕ) (s : Listed 512 sta
       step : (k : ℕ) → suc k < length (keysIn n bytes) → getD (keysIn n bytes) k 0 < getD (keysIn n bytes) (suc k) 0
       step k l =
           let j : suc k < n = omega (arith, keys-length n bytes) in
-          omega (arith, keys-at n bytes k (omega arith), keys-at n bytes (suc k) j, o (suc k) j .rises)
+          omega (arith, keys-at n bytes k (omega arith), keys-at n bytes (suc k) j, o (suc k) j .rises k refl)
 
       one : keysIn n bytes ≡ sorted pairs
       one =
@@ -148,7 +165,12 @@ module _ (stars : List ℤ) (floor : ℕ) (bytes : List ℕ) (s : Listed 512 sta
     index-size = omega (arith, holds-length held, sorted-length pairs)
 
     pub ok-all : (i : ℕ) → i < length pairs → RecordOk stars floor bytes i
-    ok-all i h = let p = paired i h in record { pair = p; rises = above i h p }
+    ok-all i h =
+        record {
+          pair = pair-ok stars floor (highAt bytes i) (lowAt bytes i) (triples stars) refl few (low-most bytes i b) (pair-of stars floor (triples stars) (keyAt bytes i) (found i h));
+          rises = λ j f.
+              omega (arith, key j (omega arith), key i h, ap (λ (n : ℕ). getD (sorted pairs) n 0) f, rising-step (sorted pairs) (pairs-rising stars floor (triples stars) few) j (omega (arith, sorted-length pairs)));
+        }
       where
         key : (k : ℕ) → k < length pairs → keyAt bytes k ≡ getD (sorted pairs) k 0
         key k l = holds-key held k (omega (arith, index-size))
@@ -157,15 +179,6 @@ module _ (stars : List ℤ) (floor : ℕ) (bytes : List ℕ) (s : Listed 512 sta
         found k l =
             let c = count-at (sorted pairs) k (omega (arith, sorted-length pairs)) in
             omega (arith, ap (λ (n : ℕ). count n pairs) (key k l), sorted-same pairs .count (getD (sorted pairs) k 0))
-
-        paired : (k : ℕ) → k < length pairs → PairOk stars floor (highAt bytes k) (lowAt bytes k)
-        paired k l =
-            pair-ok stars floor (highAt bytes k) (lowAt bytes k) (triples stars) refl few (low-most bytes k b) (pair-of stars floor (triples stars) (keyAt bytes k) (found k l))
-
-        above : (k : ℕ) → k < length pairs → PairOk stars floor (highAt bytes k) (lowAt bytes k) → keyBefore bytes k < keyAt bytes k
-        above zero l p = omega (arith, p .order)
-        above (suc k) l p =
-            omega (arith, key k (omega arith), key (suc k) l, rising-step (sorted pairs) (pairs-rising stars floor (triples stars) few) k (omega (arith, sorted-length pairs)))
 
 -- the test's outcome is the promised one
 pub says-index : (t : Bool) (stars : List ℤ) (floor : ℤ) (bytes : List ℕ) (f : ℕ) → f ≡ raised floor → Says t (bytes ≡ encoded (sorted (pairsOf stars f (triples stars)))) → t ≡ isIndex stars floor bytes

@@ -6,7 +6,7 @@ use borrow.Author.Count.{below-none, below-more}
 use borrow.Author.Tests.{not-true, not-false}
 use Rattle.index_records.specs.Format.{keyFrom}
 use Rattle.index.specs.Check.{Says, keyBefore, RecordOk}
-use Rattle.index.specs.CheckLaws.{says-yes, says-no, says-as, before-next, index-size, ok-all, all-ok}
+use Rattle.index.specs.CheckLaws.{says-yes, says-no, says-record, before-next, index-size, ok-all, all-ok}
 use borrow.Author.Needs.{needs}
 use Rattle.index.proofs.test.is_index.Statement.{statement}
 use Rattle.index.proofs.test.is_index.Tie as tie
@@ -49,7 +49,7 @@ ok-says : (c : tie.After-record-ok Inv-loop μ-loop)
     Says (c .record-ok .result) (RecordOk (x .stars .now) (x .floor) (x .index .now) (l .loop .i))
 ok-says c =
     let l = c .before .before .before .before in
-    says-as (l .loop .inv .2) (c .before .before .high .ensures) (c .before .low .ensures) (c .record-ok .ensures)
+    says-record _ _ _ (l .loop .i) (l .loop .inv .2) (c .before .before .high .ensures) (c .before .low .ensures) (c .record-ok .ensures)
 
 returns-2 : tie.Need-returns-2 Inv-loop μ-loop
 returns-2 c =
