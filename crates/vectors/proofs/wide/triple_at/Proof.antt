@@ -1,0 +1,42 @@
+-- `vectors::wide::triple_at` meets its contract. Assumes nothing.
+use borrow.Author.Needs.{needs}
+use mathlib.Core.Path.{refl}
+use Rattle.vectors.specs.Triples.{tripleAt}
+use Rattle.vectors.proofs.wide.triple_at.Statement.{statement}
+use Rattle.vectors.proofs.wide.triple_at.Tie as tie
+
+mul-k : tie.Need-mul-k
+mul-k c = search needs
+
+mul-x : tie.Need-mul-x
+mul-x c = search needs
+
+shared-slice-copy-out-x : tie.Need-shared-slice-copy-out-x
+shared-slice-copy-out-x c = search needs
+
+add-y : tie.Need-add-y
+add-y c = search needs
+
+mul-y : tie.Need-mul-y
+mul-y c = search needs
+
+shared-slice-copy-out-y : tie.Need-shared-slice-copy-out-y
+shared-slice-copy-out-y c = search needs
+
+add-z : tie.Need-add-z
+add-z c = search needs
+
+mul-z : tie.Need-mul-z
+mul-z c = search needs
+
+shared-slice-copy-out-z : tie.Need-shared-slice-copy-out-z
+shared-slice-copy-out-z c = search needs
+
+returns : tie.Need-returns
+unfolding tripleAt
+returns c = refl
+
+pub triple-at-spec : {M : Type 1} → statement M
+triple-at-spec =
+    tie.close
+    (tie.spec mul-k mul-x shared-slice-copy-out-x add-y mul-y shared-slice-copy-out-y add-z mul-z shared-slice-copy-out-z returns)
