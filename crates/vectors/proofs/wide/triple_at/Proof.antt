@@ -1,6 +1,5 @@
 -- `vectors::wide::triple_at` meets its contract. Assumes nothing.
 use borrow.Author.Needs.{needs}
-use mathlib.Core.Path.{refl}
 use Rattle.vectors.specs.Triples.{tripleAt}
 use Rattle.vectors.proofs.wide.triple_at.Statement.{statement}
 use Rattle.vectors.proofs.wide.triple_at.Tie as tie
@@ -34,7 +33,7 @@ shared-slice-copy-out-z c = search needs
 
 returns : tie.Need-returns
 unfolding tripleAt
-returns c = refl
+returns c = search needs
 
 pub triple-at-spec : {M : Type 1} → statement M
 triple-at-spec =
