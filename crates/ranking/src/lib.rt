@@ -41,7 +41,7 @@ pub fn write_rows(votes: &[u32], count: usize, words: usize, room: &mut [u16])
 }
 
 // The ranking of decoded stars.
-fn write_ranking(directions: &[i32], stars: &[i32], tolerance: u64, room: &mut [u16])
+fn write_ranking(directions: &[i32], stars: &[i64], tolerance: u64, room: &mut [u16])
     requires { ⌜ Listed 8 (now directions) ⌝ }
     requires { ⌜ Listed 512 (now stars) ⌝ }
     requires { ⌜ triples (now directions) * triples (now stars) ≤ length (now room) ⌝ }
