@@ -1,5 +1,5 @@
-// Votes by the index alone: the first record of the span is found by halving, and each record up to the span's end is a vote for both its stars.
-// The catalogue is not lent here.
+// Votes by the index alone: the first record of the span is found by halving, and each record up to the span's end is a vote of two directions for both its
+// stars. The catalogue is not lent here.
 use crate::ends;
 use index_records::format;
 ghost use Prim.Native.Nat.{ℕ, _+_, _/_, _<_, _≤_};
