@@ -7,9 +7,9 @@ use lib.IntN.{ℤ}
 use lib.ListN.{length}
 use Rattle.refusal.specs.declared.Outcome.{Outcome}
 use Rattle.refusal.specs.declared.Outcome.the-variants.{Accepted, Refused}
-use Rattle.guider.specs.declared.Guider.{Guider}
-use Rattle.guider.specs.declared.Guided.{Guided}
-use Rattle.guider.specs.Calls.{nobody, refusedWith, startedOf, guidedOf}
+use Rattle.guiding.specs.declared.Guider.{Guider}
+use Rattle.guiding.specs.declared.Guided.{Guided}
+use Rattle.guiding.specs.Calls.{nobody, refusedWith, startedOf, guidedOf}
 use Rattle.handover.specs.Room.{handedOver}
 use Rattle.handover.specs.Numbers.{rankingNumbers}
 use Rattle.exports_guider.specs.Rooms.{size, unsignedOf, sightingsIn, guiderIn, withGuides, withGuider, listingIn}

@@ -9,12 +9,12 @@ use lib.IntN.{ℤ, pos, negsuc}
 use lib.ListN.{length, getD, length-set}
 use lib.Signed.{ltZ}
 use borrow.Author.Tests.{ltb-true, ltb-false, le-ltb}
-use Rattle.guider.specs.declared.Guide.{Guide}
-use Rattle.guider.specs.declared.Sighting.{Sighting}
-use Rattle.guider.specs.declared.Guider.{Guider}
-use Rattle.guider.specs.Guider.{guideAt}
-use Rattle.guider.specs.Rule.{farthest, guiderOk}
-use Rattle.guider.specs.RuleLaws.{OnFrame, guider-keeps}
+use Rattle.guiding.specs.declared.Guide.{Guide}
+use Rattle.guiding.specs.declared.Sighting.{Sighting}
+use Rattle.guiding.specs.declared.Guider.{Guider}
+use Rattle.guiding.specs.Guider.{guideAt}
+use Rattle.guiding.specs.Rule.{farthest, guiderOk}
+use Rattle.guiding.specs.RuleLaws.{OnFrame, guider-keeps}
 use Rattle.exports_guider.specs.Rooms.{unsignedOf, numberIn, largestIdentity, sightingIn, guideIn, guiderIn, withGuides, withGuider}
 
 pub length-guides : (guides : List Guide) (n : ℕ) (room : List ℤ) → length (withGuides guides n room) ≡ length room

@@ -14,10 +14,10 @@ use Rattle.centroid.specs.declared.Centroid.{Centroid}
 use Rattle.frame.specs.declared.Report.{Report}
 use Rattle.frame.specs.declared.Listing.{Listing}
 use Rattle.handover.specs.Numbers.{signedOf}
-use Rattle.guider.specs.declared.Guide.{Guide}
-use Rattle.guider.specs.declared.Sighting.{Sighting}
-use Rattle.guider.specs.declared.Guider.{Guider}
-use Rattle.guider.specs.Guider.{noGuide}
+use Rattle.guiding.specs.declared.Guide.{Guide}
+use Rattle.guiding.specs.declared.Sighting.{Sighting}
+use Rattle.guiding.specs.declared.Guider.{Guider}
+use Rattle.guiding.specs.Guider.{noGuide}
 
 -- how many numbers a guider has
 abbrev pub size : ℕ

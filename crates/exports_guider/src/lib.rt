@@ -1,7 +1,7 @@
 // The C interface of the guider. The guider is 18 numbers in a lent room that the caller keeps between calls: half-width, count, and identity, x, y and misses of four guides.
 mod rooms; // rooms.rt: the guider and a frame's list as numbers
 
-use guider::Guided;
+use guiding::Guided;
 ghost use mathlib.Core.Path.{_≡_};
 ghost use Rattle.exports_guider.specs.Guider.{startedIn, startRoom, startHanded, framedIn, frameRoom, frameHanded};
 

@@ -2,17 +2,17 @@
 use centroid::Centroid;
 use frame::Listing;
 use frame::Report;
-use guider::Guide;
-use guider::Guided;
-use guider::Guider;
-use guider::Sighting;
+use guiding::Guide;
+use guiding::Guided;
+use guiding::Guider;
+use guiding::Sighting;
 use handover::signed;
 use refusal::Outcome;
 ghost use mathlib.Core.Path.{_≡_};
 ghost use mathlib.Core.Bool.{true};
 ghost use Prim.Native.Nat.{_+_, _≤_};
 ghost use lib.ListN.{length};
-ghost use Rattle.guider.specs.AfterLaws.{isAccepted};
+ghost use Rattle.guiding.specs.AfterLaws.{isAccepted};
 ghost use Rattle.exports_guider.specs.Rooms.{unsignedOf, numberIn, sightingIn, sightingsIn, guideIn, guiderIn, starIn, reportIn, outcomeIn, listingIn, withGuide, withGuides, withGuider};
 ghost use Rattle.exports_guider.specs.Guider.{startedRoom, framedRoom};
 

@@ -2,11 +2,11 @@
 ghost use mathlib.Core.Path.{_≡_};
 ghost use Prim.Native.Nat.{_<_};
 ghost use lib.Dec.{eqb};
-ghost use Rattle.guider.specs.Rule.{onFrame, newIdentity, guideOk, guiderOk, listOk};
-use crate::DROPPED;
-use crate::Guide;
-use crate::Guider;
+ghost use Rattle.guiding.specs.Rule.{onFrame, newIdentity, guideOk, guiderOk, listOk};
+use boxes::DROPPED;
 use frame::Report;
+use guiding::Guide;
+use guiding::Guider;
 
 // The widest half-width of a box, in 1/256 pixel.
 const WIDEST: u64 = 2560;

@@ -1,9 +1,9 @@
 // A guider that has missed nothing.
 ghost use mathlib.Core.Path.{_≡_};
-ghost use Rattle.guider.specs.Calls.{nobody as nobodyOf, freshOf, freshGuide};
-use crate::Guide;
-use crate::Guider;
-use crate::Sighting;
+ghost use Rattle.guiding.specs.Calls.{nobody as nobodyOf, freshOf, freshGuide};
+use guiding::Guide;
+use guiding::Guider;
+use guiding::Sighting;
 
 fn guide_of(star: Sighting) -> Guide
     ensures { λ r. ⌜ r ≡ freshGuide star ⌝ }

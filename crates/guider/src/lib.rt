@@ -1,47 +1,18 @@
 // The guider: up to four guides, each followed from frame to frame in a box around its last position. It sees a frame's list, and nothing below knows it.
 ghost use mathlib.Core.Path.{_≡_};
 ghost use mathlib.Core.Bool.{true};
-ghost use Rattle.guider.specs.Rule.{guiderOk};
-ghost use Rattle.guider.specs.Answers.{answerOf, startAnswer, frameAnswer};
-ghost use Rattle.guider.specs.Calls.{nobody, refusedWith, startedOf, followedOf, guidedOf};
+ghost use Rattle.guiding.specs.Rule.{guiderOk};
+ghost use Rattle.guiding.specs.Answers.{answerOf, startAnswer, frameAnswer};
+ghost use Rattle.guiding.specs.Calls.{nobody, refusedWith, startedOf, followedOf, guidedOf};
 use frame::Listing;
 use frame::Report;
+use guiding::Guided;
+use guiding::Guider;
+use guiding::Sighting;
 use refusal::Outcome;
 
 mod check; // check.rt: the rule of a guider and of a list
 mod fresh; // fresh.rt: a guider that has missed nothing
-mod follow; // follow.rt: where each guide is after a frame
-
-// The misses at which a guide is dropped.
-const DROPPED: u64 = 5;
-
-// A star to follow: its identity, which is a number of a catalogue, and its position in 1/256 pixel.
-pub struct Sighting {
-    pub identity: u32,
-    pub x: u64,
-    pub y: u64,
-}
-
-// A guide: the star's identity, its last position, and how many frames in a row it was missed.
-pub struct Guide {
-    pub identity: u32,
-    pub x: u64,
-    pub y: u64,
-    pub misses: u64,
-}
-
-// Half the side of the boxes in 1/256 pixel, and the guides: the first count of them.
-pub struct Guider {
-    pub half: u64,
-    pub count: usize,
-    pub guides: [Guide; 4],
-}
-
-// An array stands beside an enum and not in it.
-pub struct Guided {
-    pub outcome: Outcome,
-    pub guider: Guider,
-}
 
 // Refusal 22, with the guider that is handed back.
 fn refused(guider: Guider) -> Guided
@@ -85,7 +56,7 @@ fn followed(guider: Guider, report: Report) -> Guided
     }
     Guided {
         outcome: Outcome::Accepted,
-        guider: follow::after(guider, report),
+        guider: boxes::after(guider, report),
     }
 }
 

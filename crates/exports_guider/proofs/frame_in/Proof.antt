@@ -1,7 +1,7 @@
 -- `exports_guider::frame_in` meets its contract: each call's promise in turn. Assumes nothing.
 use borrow.Author.Needs.{needs}
 use mathlib.Core.Path.{_∙_}
-use Rattle.guider.specs.Calls.{guidedOf}
+use Rattle.guiding.specs.Calls.{guidedOf}
 use Rattle.exports_guider.specs.Guider.{framedIn}
 use Rattle.exports_guider.proofs.frame_in.Statement.{statement}
 use Rattle.exports_guider.proofs.frame_in.Tie as tie

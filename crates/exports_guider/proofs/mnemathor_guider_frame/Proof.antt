@@ -9,8 +9,8 @@ use native.Mathlib.Omega.{arith}
 use lib.IntN.{ℤ}
 use lib.ListN.{length, take}
 use lib.Seq.{take-all}
-use Rattle.guider.specs.declared.Guided.{Guided}
-use Rattle.guider.specs.AfterLaws.{isAccepted, accepted-few}
+use Rattle.guiding.specs.declared.Guided.{Guided}
+use Rattle.guiding.specs.AfterLaws.{isAccepted, accepted-few}
 use Rattle.handover.specs.Room.{handedOver}
 use Rattle.handover.specs.Numbers.{rankingNumbers}
 use Rattle.exports_guider.specs.Rooms.{size, guiderIn, listingIn}

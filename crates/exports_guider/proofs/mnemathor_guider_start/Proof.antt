@@ -9,7 +9,7 @@ use lib.IntN.{ℤ}
 use lib.ListN.{length}
 use mir.Syntax.{w64}
 use mir.ValLaws.{toZ-ofZ}
-use Rattle.guider.specs.declared.Guided.{Guided}
+use Rattle.guiding.specs.declared.Guided.{Guided}
 use Rattle.handover.specs.Room.{handedOver}
 use Rattle.handover.specs.Numbers.{rankingNumbers}
 use Rattle.exports_guider.specs.Rooms.{size}

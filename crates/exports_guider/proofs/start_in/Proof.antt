@@ -8,7 +8,7 @@ use lib.Dec.{eqb}
 use lib.ListN.{length}
 use mir.Syntax.{w64}
 use mir.ValLaws.{toZ-ofZ}
-use Rattle.guider.specs.Calls.{startedOf}
+use Rattle.guiding.specs.Calls.{startedOf}
 use Rattle.exports_guider.specs.Rooms.{unsignedOf}
 use Rattle.exports_guider.specs.Guider.{startedIn}
 use Rattle.exports_guider.proofs.start_in.Statement.{statement}

@@ -2,8 +2,8 @@
 use borrow.Author.Needs.{needs}
 use mathlib.Core.Path.{sym, ap, _∙_}
 use borrow.Author.Tests.{not-true, not-false}
-use Rattle.guider.specs.RuleLaws.{guider-keeps, list-keeps}
-use Rattle.guider.specs.Calls.{accepted}
+use Rattle.guiding.specs.RuleLaws.{guider-keeps, list-keeps}
+use Rattle.guiding.specs.Calls.{accepted}
 use Rattle.guider.proofs.followed.Statement.{statement}
 use Rattle.guider.proofs.followed.Tie as tie
 

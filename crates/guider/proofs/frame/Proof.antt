@@ -6,11 +6,11 @@ use mathlib.Core.Path.{_≡_, refl, sym, ap, _∙_}
 use Rattle.refusal.specs.declared.Refusal.{Refusal}
 use Rattle.refusal.specs.declared.Outcome.the-variants.{Accepted, Refused}
 use Rattle.frame.specs.declared.Listing.{Listing}
-use Rattle.guider.specs.declared.Guider.{Guider}
-use Rattle.guider.specs.declared.Guided.{Guided}
-use Rattle.guider.specs.Rule.{guiderOk}
-use Rattle.guider.specs.Calls.{accepted, refusedWith, followedOf, guidedOf}
-use Rattle.guider.specs.Answers.{answerOf, frameAnswer, frame-answers}
+use Rattle.guiding.specs.declared.Guider.{Guider}
+use Rattle.guiding.specs.declared.Guided.{Guided}
+use Rattle.guiding.specs.Rule.{guiderOk}
+use Rattle.guiding.specs.Calls.{accepted, refusedWith, followedOf, guidedOf}
+use Rattle.guiding.specs.Answers.{answerOf, frameAnswer, frame-answers}
 use Rattle.guider.proofs.frame.Statement.{statement}
 use Rattle.guider.proofs.frame.Tie as tie
 

@@ -2,7 +2,7 @@
 use borrow.Author.Needs.{needs}
 use mathlib.Core.Path.{sym, ap, _∙_}
 use Rattle.refusal.specs.declared.Outcome.{Outcome}
-use Rattle.guider.specs.AfterLaws.{isAccepted}
+use Rattle.guiding.specs.AfterLaws.{isAccepted}
 use Rattle.exports_guider.specs.Guider.{gone}
 use Rattle.exports_guider.proofs.rooms.put_framed.Statement.{statement}
 use Rattle.exports_guider.proofs.rooms.put_framed.Tie as tie

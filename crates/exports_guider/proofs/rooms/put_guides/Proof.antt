@@ -7,8 +7,8 @@ use native.Mathlib.Numerals.{add-one}
 use native.Mathlib.Omega.{arith}
 use lib.IntN.{ℤ}
 use lib.ListN.{length, getD, length-set}
-use Rattle.guider.specs.declared.Guide.{Guide}
-use Rattle.guider.specs.Guider.{noGuide}
+use Rattle.guiding.specs.declared.Guide.{Guide}
+use Rattle.guiding.specs.Guider.{noGuide}
 use Rattle.exports_guider.specs.Rooms.{withGuide, withGuides}
 use Rattle.exports_guider.proofs.rooms.put_guides.Statement.{statement}
 use Rattle.exports_guider.proofs.rooms.put_guides.Tie as tie

@@ -5,7 +5,7 @@ use mathlib.Core.Path.{_≡_, refl, _∙_}
 use mathlib.Core.List.{List}
 use Prim.Native.Nat.{ℕ, _+_, _≤_, _<_}
 use lib.IntN.{ℤ}
-use Rattle.guider.specs.declared.Sighting.{Sighting}
+use Rattle.guiding.specs.declared.Sighting.{Sighting}
 use Rattle.exports_guider.specs.Rooms.{numberIn, largestIdentity, sightingIn}
 use Rattle.exports_guider.proofs.rooms.sighting_in.Statement.{statement}
 use Rattle.exports_guider.proofs.rooms.sighting_in.Tie as tie

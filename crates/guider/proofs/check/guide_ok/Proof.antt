@@ -2,7 +2,7 @@
 use borrow.Author.Needs.{needs}
 use mathlib.Core.Path.{sym, _∙_}
 use borrow.Author.Tests.{le-leb, lt-leb, not-true, not-false}
-use Rattle.guider.specs.Rule.{guideOk}
+use Rattle.guiding.specs.Rule.{guideOk}
 use Rattle.guider.proofs.check.guide_ok.Statement.{statement}
 use Rattle.guider.proofs.check.guide_ok.Tie as tie
 

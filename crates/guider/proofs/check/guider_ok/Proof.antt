@@ -7,7 +7,7 @@ use native.Mathlib.Omega.{arith}
 use borrow.Author.Tests.{le-leb, lt-leb, not-true, not-false}
 use Rattle.assignment.specs.Tests.{all}
 use Rattle.assignment.proofs.Tests as tests
-use Rattle.guider.specs.Rule.{guideOk, guiderOk}
+use Rattle.guiding.specs.Rule.{guideOk, guiderOk}
 use Rattle.guider.proofs.check.guider_ok.Statement.{statement}
 use Rattle.guider.proofs.check.guider_ok.Tie as tie
 

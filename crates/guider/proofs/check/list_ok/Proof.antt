@@ -7,8 +7,8 @@ use native.Mathlib.Omega.{arith}
 use borrow.Author.Tests.{le-leb, lt-leb, not-true, not-false}
 use Rattle.assignment.specs.Tests.{all}
 use Rattle.assignment.proofs.Tests as tests
-use Rattle.guider.specs.Guider.{starAt}
-use Rattle.guider.specs.Rule.{onFrame, listOk}
+use Rattle.guiding.specs.Guider.{starAt}
+use Rattle.guiding.specs.Rule.{onFrame, listOk}
 use Rattle.guider.proofs.check.list_ok.Statement.{statement}
 use Rattle.guider.proofs.check.list_ok.Tie as tie
 
