@@ -1,9 +1,8 @@
 // Guide boxes: where each guide is after a frame. All boxes, and which guides are live, are those before it.
 ghost use mathlib.Core.Path.{_≡_};
 ghost use Prim.Native.Nat.{_<_, _≤_};
-ghost use Rattle.counting.specs.First.{first};
-ghost use Rattle.counting.specs.Number.{number};
-ghost use Rattle.guiding.specs.Guider.{apart as apartOf, inBox, claimed, shared, inside, guideAfter, guidesAfter, guiderAfter, missed as missedOf};
+ghost use Rattle.guiding.specs.Guider.{guideAt, apart as apartOf, inBox, claimed, shared, guideAfter, guidesAfter, guiderAfter, missed as missedOf};
+ghost use Rattle.boxes.specs.Sight.{Seen};
 use centroid::Centroid;
 use frame::Report;
 use guiding::Guide;
@@ -58,43 +57,34 @@ fn is_shared(guider: Guider, i: usize, star: Centroid) -> bool
     false
 }
 
-// How many listed stars lie in the box of guide i.
-fn stars_inside(guider: Guider, report: Report, i: usize) -> usize
-    requires { ⌜ (i < 4) × (report .count ≤ 8) ⌝ }
-    ensures { λ r. ⌜ r ≡ number (report .count) (inside guider report i) ⌝ }
-{
-    let guides = guider.guides;
-    let guide = guides[i];
-    let stars = report.stars;
-    let mut n: usize = 0;
-    let mut k: usize = 0;
-    while k < report.count {
-        let star = stars[k];
-        if in_box(guider.half, guide, star) {
-            n += 1;
-        }
-        k += 1;
-    }
-    n
+// What one look at the list tells of a box: how many stars lie in it, and the last of them.
+struct Sight {
+    count: usize,
+    star: Centroid,
 }
 
-// The first listed star in the box of guide i.
-fn first_inside(guider: Guider, report: Report, i: usize) -> usize
-    requires { ⌜ (i < 4) × (report .count ≤ 8) ⌝ }
-    ensures { λ r. ⌜ r ≡ first (inside guider report i) (report .count) ⌝ }
+// Of a single star in the box, the last is the first.
+fn look(half: u64, guide: Guide, report: Report) -> Sight
+    requires { ⌜ report .count ≤ 8 ⌝ }
+    ensures { λ r. ⌜ Seen half guide report r ⌝ }
 {
-    let guides = guider.guides;
-    let guide = guides[i];
     let stars = report.stars;
+    let mut n: usize = 0;
+    let mut last: usize = 0;
     let mut k: usize = 0;
     while k < report.count {
         let star = stars[k];
-        if in_box(guider.half, guide, star) {
-            return k;
+        if in_box(half, guide, star) {
+            n += 1;
+            last = k;
         }
         k += 1;
     }
-    k
+    let found = stars[last];
+    Sight {
+        count: n,
+        star: found,
+    }
 }
 
 // The guide where it was, with one miss more.
@@ -110,21 +100,19 @@ fn missed(guide: Guide) -> Guide
     }
 }
 
-// Guide i after the frame.
-fn guide_after(guider: Guider, report: Report, i: usize) -> Guide
-    requires { ⌜ (i < guider .count) × (guider .count ≤ 4) × (report .count ≤ 8) ⌝ }
+// Guide i after the frame. The guide is handed in beside the guider, whose array would be copied for it.
+fn guide_after(guider: Guider, report: Report, i: usize, guide: Guide) -> Guide
+    requires { ⌜ (guider .count ≤ 4) × (report .count ≤ 8) × (guide ≡ guideAt guider i) ⌝ }
     ensures { λ r. ⌜ r ≡ guideAfter guider report i ⌝ }
 {
-    let guides = guider.guides;
-    let guide = guides[i];
     if DROPPED <= guide.misses {
         return guide;
     }
-    if stars_inside(guider, report, i) != 1 {
+    let sight = look(guider.half, guide, report);
+    if sight.count != 1 {
         return missed(guide);
     }
-    let stars = report.stars;
-    let star = stars[first_inside(guider, report, i)];
+    let star = sight.star;
     if is_shared(guider, i, star) {
         return missed(guide);
     }
@@ -136,7 +124,7 @@ fn guide_after(guider: Guider, report: Report, i: usize) -> Guide
     }
 }
 
-// The guides after the frame. Each is judged by the guider as it was before.
+// The guides after the frame. Each is judged by the guider as it was before, and has not moved until its turn.
 fn guides_after(guider: Guider, report: Report) -> [Guide; 4]
     requires { ⌜ (guider .count ≤ 4) × (report .count ≤ 8) ⌝ }
     ensures { λ r. ⌜ r ≡ guidesAfter guider report (guider .count) ⌝ }
@@ -144,7 +132,8 @@ fn guides_after(guider: Guider, report: Report) -> [Guide; 4]
     let mut guides = guider.guides;
     let mut i: usize = 0;
     while i < guider.count {
-        let next = guide_after(guider, report, i);
+        let guide = guides[i];
+        let next = guide_after(guider, report, i, guide);
         guides[i] = next;
         i += 1;
     }

@@ -1,8 +1,12 @@
 // The rule of a guider, whether it was just made or is handed in, and of a frame's list.
 ghost use mathlib.Core.Path.{_≡_};
-ghost use Prim.Native.Nat.{_<_};
-ghost use lib.Dec.{eqb};
-ghost use Rattle.guiding.specs.Rule.{onFrame, newIdentity, guideOk, guiderOk, listOk};
+ghost use mathlib.Core.Bool.{_&&_};
+ghost use Prim.Native.Nat.{ℕ, _<_};
+ghost use lib.Dec.{leb};
+ghost use lib.ListN.{length, getD};
+ghost use Rattle.guiding.specs.Guider.{noGuide, dropped};
+ghost use Rattle.guiding.specs.Rule.{onFrame, guiderOk, listOk};
+ghost use Rattle.guider.specs.Identities.{newAmong};
 use boxes::DROPPED;
 use frame::Report;
 use guiding::Guide;
@@ -22,24 +26,31 @@ fn on_frame(x: u64, y: u64) -> bool
     y <= FARTHEST
 }
 
-// Whether two guides have one identity. A dropped guide keeps its identity.
-fn is_same(a: Guide, b: Guide) -> bool
-    ensures { λ r. ⌜ r ≡ eqb (a .identity) (b .identity) ⌝ }
+// The guides' identities, apart: they are lent as they stand, where an array of guides would be copied each time.
+fn identities_of(guides: [Guide; 4]) -> [u32; 4]
+    ensures { λ r. ⌜ ((i : ℕ) → i < 4 → getD r i 0 ≡ getD guides i noGuide .identity) ⌝ }
 {
-    a.identity == b.identity
+    let first = guides[0];
+    let second = guides[1];
+    let third = guides[2];
+    let fourth = guides[3];
+    [
+        first.identity,
+        second.identity,
+        third.identity,
+        fourth.identity,
+    ]
 }
 
-// Whether no guide before guide i has its identity.
-fn is_new(guider: Guider, i: usize) -> bool
-    requires { ⌜ i < 4 ⌝ }
-    ensures { λ r. ⌜ r ≡ newIdentity guider i ⌝ }
+// Whether no identity before identity i is the same. A dropped guide keeps its identity.
+fn is_new(identities: &[u32], i: usize) -> bool
+    requires { ⌜ i < length (now identities) ⌝ }
+    ensures { λ r. ⌜ r ≡ newAmong (now (identities .entry)) i ⌝ }
 {
-    let guides = guider.guides;
-    let guide = guides[i];
+    let identity = identities[i];
     let mut j: usize = 0;
     while j < i {
-        let other = guides[j];
-        if is_same(other, guide) {
+        if identities[j] == identity {
             return false;
         }
         j += 1;
@@ -47,19 +58,17 @@ fn is_new(guider: Guider, i: usize) -> bool
     true
 }
 
-fn guide_ok(guider: Guider, i: usize) -> bool
-    requires { ⌜ i < 4 ⌝ }
-    ensures { λ r. ⌜ r ≡ guideOk guider i ⌝ }
+fn guide_ok(guide: Guide, identities: &[u32], i: usize) -> bool
+    requires { ⌜ i < length (now identities) ⌝ }
+    ensures { λ r. ⌜ r ≡ (onFrame (guide .x) (guide .y) && (leb (guide .misses) dropped && newAmong (now (identities .entry)) i)) ⌝ }
 {
-    let guides = guider.guides;
-    let guide = guides[i];
     if !on_frame(guide.x, guide.y) {
         return false;
     }
     if DROPPED < guide.misses {
         return false;
     }
-    is_new(guider, i)
+    is_new(identities, i)
 }
 
 pub(crate) fn guider_ok(guider: Guider) -> bool
@@ -71,9 +80,12 @@ pub(crate) fn guider_ok(guider: Guider) -> bool
     if 4 < guider.count {
         return false;
     }
+    let guides = guider.guides;
+    let identities = identities_of(guides);
     let mut i: usize = 0;
     while i < guider.count {
-        if !guide_ok(guider, i) {
+        let guide = guides[i];
+        if !guide_ok(guide, &identities, i) {
             return false;
         }
         i += 1;

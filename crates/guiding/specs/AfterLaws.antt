@@ -44,7 +44,8 @@ module _ (g : Guider) (r : Report) where
       go (yes q) f = rw q (getD-set-same (guidesAfter g r n) n (guideAfter g r n) noGuide (omega (arith, length-after n)))
       go (no d) f = getD-set-other (guidesAfter g r n) n i (guideAfter g r n) noGuide d ∙ f (omega arith)
 
-  at-behind : (n i : ℕ) → n ≤ i → getD (guidesAfter g r n) i noGuide ≡ guideAt g i
+  -- a guide does not move before its turn
+  pub at-behind : (n i : ℕ) → n ≤ i → getD (guidesAfter g r n) i noGuide ≡ guideAt g i
   unfolding guidesAfter
   at-behind zero i h = refl
   at-behind (suc n) i h = getD-set-other (guidesAfter g r n) n i (guideAfter g r n) noGuide (λ q. omega arith) ∙ at-behind n i (omega arith)

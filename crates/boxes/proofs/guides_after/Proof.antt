@@ -5,11 +5,12 @@ use mathlib.Core.List.{List}
 use Prim.Native.Nat.{ℕ, _+_, _≤_, _-_}
 use native.Mathlib.Numerals.{add-one}
 use native.Mathlib.Omega.{arith}
-use lib.ListN.{set}
+use lib.ListN.{getD, set}
 use Rattle.frame.specs.declared.Report.{Report}
 use Rattle.guiding.specs.declared.Guide.{Guide}
 use Rattle.guiding.specs.declared.Guider.{Guider}
-use Rattle.guiding.specs.Guider.{guideAfter, guidesAfter}
+use Rattle.guiding.specs.Guider.{noGuide, guideAfter, guidesAfter}
+use Rattle.guiding.specs.AfterLaws.{at-behind}
 use Rattle.boxes.proofs.guides_after.Statement.{statement}
 use Rattle.boxes.proofs.guides_after.Tie as tie
 
@@ -27,8 +28,20 @@ loop-holds : tie.Need-loop-holds Inv-loop μ-loop
 unfolding guidesAfter
 loop-holds c = (search needs, refl)
 
+mul-guide : tie.Need-mul-guide Inv-loop μ-loop
+mul-guide c = search needs
+
+array-copy-out-guide : tie.Need-array-copy-out-guide Inv-loop μ-loop
+array-copy-out-guide c = search needs
+
 guide-after-requires : tie.Need-guide-after-requires Inv-loop μ-loop
-guide-after-requires c κs = search needs
+guide-after-requires c κs =
+    let l = c .before .before .before .loop in
+    let s = c .before .before .before .before .before in (
+      s .pre .0,
+      s .pre .1,
+      ap (λ (gs : List Guide). getD gs (l .i) noGuide) (l .inv .1) ∙ at-behind (s .args .guider) (s .args .report) (l .i) (l .i) (omega arith),
+    )
 
 mul-guides : tie.Need-mul-guides Inv-loop μ-loop
 mul-guides c = search needs
@@ -44,8 +57,8 @@ loop-less c = search needs
 
 loop-again : tie.Need-loop-again Inv-loop μ-loop
 loop-again c =
-    let l = c .before .before .before .loop in
-    let a = c .before .before .before .before .before .args in (
+    let l = c .before .before .before .before .loop in
+    let a = c .before .before .before .before .before .before .args in (
       omega arith,
       ap (set (l .guides) (l .i)) (c .guide-after .ensures)
           ∙ ap (λ (gs : List Guide). set gs (l .i) (guideAfter (a .guider) (a .report) (l .i))) (l .inv .1)
@@ -66,6 +79,8 @@ guides-after-spec =
     Inv-loop
     μ-loop
     loop-holds
+    mul-guide
+    array-copy-out-guide
     guide-after-requires
     mul-guides
     array-set-from-guides

@@ -2,27 +2,18 @@
 use borrow.Author.Needs.{needs}
 use mathlib.Core.Path.{sym, _∙_}
 use borrow.Author.Tests.{le-leb, lt-leb, not-true, not-false}
-use Rattle.guiding.specs.Rule.{guideOk}
 use Rattle.guider.proofs.check.guide_ok.Statement.{statement}
 use Rattle.guider.proofs.check.guide_ok.Tie as tie
-
-mul-guide : tie.Need-mul-guide
-mul-guide c = search needs
-
-array-copy-out-guide : tie.Need-array-copy-out-guide
-array-copy-out-guide c = search needs
 
 on-frame-requires : tie.Need-on-frame-requires
 on-frame-requires c κs = search needs
 
 returns : tie.Need-returns
-unfolding guideOk
 returns c =
     let f = c .before .on-frame in
     rw (sym (f .ensures) ∙ not-true (f .result) (c .if1 .taken))
 
 returns-2 : tie.Need-returns-2
-unfolding guideOk
 returns-2 c =
     let f = c .before .before .before .on-frame in
     rw (sym (f .ensures) ∙ not-false (f .result) (c .before .before .if1 .left), lt-leb _ _ (c .if2 .taken))
@@ -31,19 +22,9 @@ is-new-requires : tie.Need-is-new-requires
 is-new-requires c κs = search needs
 
 returns-3 : tie.Need-returns-3
-unfolding guideOk
 returns-3 c =
     let f = c .before .before .before .before .on-frame in
     rw (sym (f .ensures) ∙ not-false (f .result) (c .before .before .before .if1 .left), le-leb _ _ (c .before .if2 .left)) (c .is-new .ensures)
 
 pub guide-ok-spec : {M : Type 1} → statement M
-guide-ok-spec =
-    tie.close
-    (tie.spec
-    mul-guide
-    array-copy-out-guide
-    on-frame-requires
-    returns
-    returns-2
-    is-new-requires
-    returns-3)
+guide-ok-spec = tie.close (tie.spec on-frame-requires returns returns-2 is-new-requires returns-3)
