@@ -20,7 +20,7 @@ use Rattle.files.specs.Settings.{readingOf}
 use Rattle.text.specs.Refused.{refusalLine}
 use Rattle.text.specs.Ascii.{ascii}
 use Rattle.text.specs.Decimal.{decimal}
-use Rattle.listing.specs.Lines.{nameOf, reportLines, matrixLines}
+use Rattle.listing_lines.specs.Lines.{nameOf, reportLines, matrixLines}
 use Rattle.listing.specs.Listing.{nobody, early, acceptedText, refusedText, answerText, samplesIn, textOf, listingText}
 
 module _ {first second : List ℕ} (a : Alike first second) where

@@ -1,5 +1,4 @@
 -- The definitions that the listing's contracts cite, and their laws.
-pub mod Lines
 pub mod Listing
 pub mod ListingLaws
 pub mod Alike

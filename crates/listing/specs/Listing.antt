@@ -18,7 +18,7 @@ use Rattle.files.specs.Settings.{readingOf}
 use Rattle.files.specs.Samples.{sampleCount, samplesOf}
 use Rattle.text.specs.Refused.{refusalLine}
 use Rattle.text.specs.Ascii.{ascii}
-use Rattle.listing.specs.Lines.{nameOf, reportLines, matrixLines}
+use Rattle.listing_lines.specs.Lines.{nameOf, reportLines, matrixLines}
 
 -- ---- the names of an assignment's stars, or "-" for every one where none are shown
 

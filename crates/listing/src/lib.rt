@@ -1,6 +1,4 @@
 // The listing of document 01: the whole answer to three files, accepted or refused, as bytes in a lent room.
-pub mod lines;
-
 use files::Reading;
 use refusal::Outcome;
 use refusal::Refusal;
@@ -62,10 +60,10 @@ fn refused(
     let report = listing.report;
     if refusal.number == refusal::CLOSE {
         let words = found(refusal, samples, catalogue, settings, ranking, report.count);
-        let next = lines::report(room, 0, report, words, true, catalogue);
+        let next = listing_lines::report(room, 0, report, words, true, catalogue);
         return text::refused(room, next, refusal);
     }
-    let next = lines::report(room, 0, report, [0u16; 8], false, catalogue);
+    let next = listing_lines::report(room, 0, report, [0u16; 8], false, catalogue);
     text::refused(room, next, refusal)
 }
 
@@ -83,8 +81,8 @@ fn answer(samples: &[u16], catalogue: &[u8], settings: Settings, room: &mut [u8]
     match outcome {
         Outcome::Refused(r) => refused(r, samples, catalogue, settings, &ranking, room),
         Outcome::Accepted => {
-            let next = lines::report(room, 0, report, words, true, catalogue);
-            lines::matrix(room, next, matrix)
+            let next = listing_lines::report(room, 0, report, words, true, catalogue);
+            listing_lines::matrix(room, next, matrix)
         }
     }
 }

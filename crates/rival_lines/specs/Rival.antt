@@ -10,7 +10,7 @@ use Rattle.files.specs.declared.Reading.the-variants as reading
 use Rattle.files.specs.Settings.{readingOf}
 use Rattle.text.specs.Ascii.{ascii}
 use Rattle.text.specs.Refused.{refusalLine}
-use Rattle.listing.specs.Lines.{shownIn, starLines}
+use Rattle.listing_lines.specs.Lines.{shownIn, starLines}
 use Rattle.listing.specs.Listing.{chainOn, samplesIn}
 use Rattle.rival.specs.declared.Contest.{Contest}
 use Rattle.rival_tracker.specs.Chain.{contestedOf}

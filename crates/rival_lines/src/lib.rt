@@ -22,7 +22,7 @@ fn lines(room: &mut [u8], report: Report, contest: Contest, catalogue: &[u8]) ->
         Outcome::Refused(r) => text::refused(room, 0, r),
         Outcome::Accepted => {
             if contest.rival {
-                return listing::lines::stars(room, 0, report, words, true, catalogue);
+                return listing_lines::stars(room, 0, report, words, true, catalogue);
             }
             text::word(room, 0, b"alone\n")
         }

@@ -13,7 +13,7 @@ use Rattle.tracker.specs.declared.Tracked.{Tracked}
 use Rattle.tracker.specs.Chain.{Call, trackedOf}
 use Rattle.text.specs.Written.{Wrote}
 use Rattle.text.specs.WrittenLaws.{wrote-then}
-use Rattle.listing.specs.Lines.{shownIn, reportLines, matrixLines}
+use Rattle.listing_lines.specs.Lines.{shownIn, reportLines, matrixLines}
 use Rattle.listing.specs.Listing.{chainOn, acceptedText, refusedText, answerText}
 use Rattle.listing.proofs.answer.Statement.{statement}
 use Rattle.listing.proofs.answer.Tie as tie

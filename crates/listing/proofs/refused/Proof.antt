@@ -13,7 +13,7 @@ use Rattle.tracker.specs.Chain.{Call, listed}
 use Rattle.text.specs.Refused.{refusalLine}
 use Rattle.text.specs.Written.{Wrote}
 use Rattle.text.specs.WrittenLaws.{wrote-then}
-use Rattle.listing.specs.Lines.{shownIn, reportLines}
+use Rattle.listing_lines.specs.Lines.{shownIn, reportLines}
 use Rattle.listing.specs.Listing.{named, nobody, found, early, refusedText, chainOn}
 use Rattle.listing.proofs.refused.Statement.{statement}
 use Rattle.listing.proofs.refused.Tie as tie

@@ -12,7 +12,7 @@ use Rattle.frame.specs.declared.Report.{Report}
 use Rattle.text.specs.Ascii.{ascii}
 use Rattle.text.specs.Refused.{refusalLine}
 use Rattle.text.specs.Written.{Wrote}
-use Rattle.listing.specs.Lines.{shownIn, starLines}
+use Rattle.listing_lines.specs.Lines.{shownIn, starLines}
 use Rattle.rival.specs.declared.Contest.{Contest}
 use Rattle.rival_lines.specs.Rival.{contestText}
 use Rattle.rival_lines.proofs.lines.Statement.{statement}

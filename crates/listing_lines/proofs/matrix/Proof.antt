@@ -1,10 +1,10 @@
--- `listing::lines::matrix` meets its contract: row after row. Assumes nothing.
+-- `listing_lines::matrix` meets its contract: row after row. Assumes nothing.
 use borrow.Author.Needs.{needs}
 use native.Mathlib.Omega.{arith}
 use Rattle.text.specs.WrittenLaws.{wrote-then}
-use Rattle.listing.specs.Lines.{matrixLines}
-use Rattle.listing.proofs.lines.matrix.Statement.{statement}
-use Rattle.listing.proofs.lines.matrix.Tie as tie
+use Rattle.listing_lines.specs.Lines.{matrixLines}
+use Rattle.listing_lines.proofs.matrix.Statement.{statement}
+use Rattle.listing_lines.proofs.matrix.Tie as tie
 
 row-requires : tie.Need-row-requires
 row-requires c κs = search needs

@@ -1,4 +1,4 @@
--- `listing::lines::star_lines` meets its contract. The invariant: the lines of the stars passed stand in the room. Assumes nothing.
+-- `listing_lines::star_lines` meets its contract. The invariant: the lines of the stars passed stand in the room. Assumes nothing.
 use borrow.Author.Needs.{needs}
 use mathlib.Core.Path.{_≡_}
 use mathlib.Core.List.{List}
@@ -10,9 +10,9 @@ use Rattle.centroid.specs.declared.Centroid.{Centroid}
 use Rattle.frame.specs.Stars.{nought}
 use Rattle.text.specs.Written.{Wrote}
 use Rattle.text.specs.WrittenLaws.{wrote-none, wrote-then, wrote-length}
-use Rattle.listing.specs.Lines.{shownIn, starLine, starLines}
-use Rattle.listing.proofs.lines.star_lines.Statement.{statement}
-use Rattle.listing.proofs.lines.star_lines.Tie as tie
+use Rattle.listing_lines.specs.Lines.{shownIn, starLine, starLines}
+use Rattle.listing_lines.proofs.star_lines.Statement.{statement}
+use Rattle.listing_lines.proofs.star_lines.Tie as tie
 
 abbrev Inv-loop : tie.InvT-loop
 Inv-loop room₀ at count names catalogue stars words next₀ k₀ room next k =

@@ -6,7 +6,7 @@ use vectors::Vec3;
 ghost use mathlib.Core.Path.{_≡_};
 ghost use Prim.Native.Nat.{_+_, _≤_, min};
 ghost use Rattle.text.specs.Written.{Wrote};
-ghost use Rattle.listing.specs.Lines.{countsLine, shown, shownIn, starPlace, starLine, starLines, reportLines, rowLine, matrixLines};
+ghost use Rattle.listing_lines.specs.Lines.{countsLine, shown, shownIn, starPlace, starLine, starLines, reportLines, rowLine, matrixLines};
 
 // How many stars a list has at most.
 const MOST_STARS: usize = 8;
@@ -118,7 +118,7 @@ pub fn stars(
 }
 
 // The counts, and a line for each listed star.
-pub(crate) fn report(
+pub fn report(
     room: &mut [u8],
     at: usize,
     report: Report,
@@ -147,7 +147,7 @@ fn row(room: &mut [u8], at: usize, row: Vec3) -> usize
 }
 
 // The matrix, row by row.
-pub(crate) fn matrix(room: &mut [u8], at: usize, matrix: Matrix) -> usize
+pub fn matrix(room: &mut [u8], at: usize, matrix: Matrix) -> usize
     ensures { λ r. ⌜ Wrote (now (room .entry)) at (matrixLines matrix) (now (room .exit)) r ⌝ }
     ensures { λ r. ⌜ r ≤ at + 198 ⌝ }
 {

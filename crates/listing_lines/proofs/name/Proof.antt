@@ -1,4 +1,4 @@
--- `listing::lines::name` meets its contract, test by test. Assumes nothing.
+-- `listing_lines::name` meets its contract, test by test. Assumes nothing.
 use borrow.Author.Needs.{needs}
 use borrow.Author.Tests.{lt-ltb, le-ltb, not-true, not-false}
 use mathlib.Core.Bool.{Bool, true, false, not}
@@ -10,9 +10,9 @@ use Rattle.catalogue.specs.Format.{recordsIn}
 use Rattle.catalogue.specs.Stars.{identityFor}
 use Rattle.text.specs.Decimal.{decimal}
 use Rattle.text.specs.Written.{Wrote}
-use Rattle.listing.specs.Lines.{shown, nameOf}
-use Rattle.listing.proofs.lines.name.Statement.{statement}
-use Rattle.listing.proofs.lines.name.Tie as tie
+use Rattle.listing_lines.specs.Lines.{shown, nameOf}
+use Rattle.listing_lines.proofs.name.Statement.{statement}
+use Rattle.listing_lines.proofs.name.Tie as tie
 
 module _ {a b : List ℕ} {at to : ℕ} (names : Bool) (catalogue : List ℕ) (word : ℕ) where
   hidden : not names ≡ true → Wrote a at (45 ∷ []) b to → Wrote a at (shown names catalogue word) b to

@@ -1,10 +1,13 @@
--- `listing::lines::counts` meets its contract: the counts, each behind its word. Assumes nothing.
+-- `listing_lines::place` meets its contract: four numbers, and a blank behind each. Assumes nothing.
 use borrow.Author.Needs.{needs}
 use native.Mathlib.Omega.{arith}
 use Rattle.text.specs.WrittenLaws.{wrote-then}
-use Rattle.listing.specs.Lines.{countsLine}
-use Rattle.listing.proofs.lines.counts.Statement.{statement}
-use Rattle.listing.proofs.lines.counts.Tie as tie
+use Rattle.listing_lines.specs.Lines.{starPlace}
+use Rattle.listing_lines.proofs.place.Statement.{statement}
+use Rattle.listing_lines.proofs.place.Tie as tie
+
+number-requires : tie.Need-number-requires
+number-requires c κs = search needs
 
 slice-aggregate-labelled : tie.Need-slice-aggregate-labelled
 slice-aggregate-labelled c = search needs
@@ -34,18 +37,20 @@ same-length : tie.Need-same-length
 same-length c = search needs
 
 returns : tie.Need-returns
-unfolding countsLine
+unfolding starPlace
 returns c =
-    let w4 = c .before .before in
+    let w5 = c .before .before in
+    let w4 = w5 .before .before .before .before .before in
     let w3 = w4 .before .before .before .before .before in
     let w2 = w3 .before .before .before .before .before in
     let w1 = w2 .before .before .before .before .before in
-    (wrote-then (wrote-then (wrote-then (w1 .labelled .ensures .0) (w2 .labelled2 .ensures .0)) (w3 .labelled3 .ensures .0)) (w4 .word .ensures), omega (arith, w1 .labelled .ensures .1, w2 .labelled2 .ensures .1, w3 .labelled3 .ensures .1, w4 .word .ensures .place))
+    (wrote-then (wrote-then (wrote-then (wrote-then (w1 .number .ensures .0) (w2 .labelled .ensures .0)) (w3 .labelled2 .ensures .0)) (w4 .labelled3 .ensures .0)) (w5 .word .ensures), omega (arith, w1 .number .ensures .1, w2 .labelled .ensures .1, w3 .labelled2 .ensures .1, w4 .labelled3 .ensures .1, w5 .word .ensures .place))
 
-pub counts-spec : {M : Type 1} → statement M
-counts-spec =
+pub place-spec : {M : Type 1} → statement M
+place-spec =
     tie.close
     (tie.spec
+    number-requires
     slice-aggregate-labelled
     labelled-requires
     slice-aggregate-labelled-2

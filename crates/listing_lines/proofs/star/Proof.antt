@@ -1,10 +1,10 @@
--- `listing::lines::star` meets its contract: a name behind the numbers. Assumes nothing.
+-- `listing_lines::star` meets its contract: a name behind the numbers. Assumes nothing.
 use borrow.Author.Needs.{needs}
 use native.Mathlib.Omega.{arith}
 use Rattle.text.specs.WrittenLaws.{wrote-then}
-use Rattle.listing.specs.Lines.{starLine}
-use Rattle.listing.proofs.lines.star.Statement.{statement}
-use Rattle.listing.proofs.lines.star.Tie as tie
+use Rattle.listing_lines.specs.Lines.{starLine}
+use Rattle.listing_lines.proofs.star.Statement.{statement}
+use Rattle.listing_lines.proofs.star.Tie as tie
 
 place-requires : tie.Need-place-requires
 place-requires c κs = search needs

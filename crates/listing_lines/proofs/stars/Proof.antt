@@ -1,7 +1,7 @@
--- `listing::lines::stars` meets its contract: no list has more than 8. Assumes nothing.
+-- `listing_lines::stars` meets its contract: no list has more than 8. Assumes nothing.
 use borrow.Author.Needs.{needs}
-use Rattle.listing.proofs.lines.stars.Statement.{statement}
-use Rattle.listing.proofs.lines.stars.Tie as tie
+use Rattle.listing_lines.proofs.stars.Statement.{statement}
+use Rattle.listing_lines.proofs.stars.Tie as tie
 
 at-most-eight-requires : tie.Need-at-most-eight-requires
 at-most-eight-requires c κs = search needs

@@ -1,4 +1,4 @@
--- `listing::lines::row` meets its contract: three numbers and what stands between them. Assumes nothing.
+-- `listing_lines::row` meets its contract: three numbers and what stands between them. Assumes nothing.
 use borrow.Author.Needs.{needs}
 use mathlib.Core.List.{List}
 use Prim.Native.Nat.{ℕ}
@@ -10,9 +10,9 @@ use mir.ValLaws.{toZ-ofZ}
 use Rattle.text.specs.Decimal.{signedDecimal}
 use Rattle.text.specs.Written.{Wrote}
 use Rattle.text.specs.WrittenLaws.{wrote-then}
-use Rattle.listing.specs.Lines.{rowLine}
-use Rattle.listing.proofs.lines.row.Statement.{statement}
-use Rattle.listing.proofs.lines.row.Tie as tie
+use Rattle.listing_lines.specs.Lines.{rowLine}
+use Rattle.listing_lines.proofs.row.Statement.{statement}
+use Rattle.listing_lines.proofs.row.Tie as tie
 
 -- what was put is the field's own number
 held-wrote : {a b : List ℕ} {at to : ℕ} {z : ℤ} → SFits w64 z → Wrote a at (signedDecimal (toZ w64 (ofZ w64 z))) b to → Wrote a at (signedDecimal z) b to

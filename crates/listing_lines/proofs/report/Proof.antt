@@ -1,10 +1,10 @@
--- `listing::lines::report` meets its contract: the stars behind the counts. Assumes nothing.
+-- `listing_lines::report` meets its contract: the stars behind the counts. Assumes nothing.
 use borrow.Author.Needs.{needs}
 use native.Mathlib.Omega.{arith}
 use Rattle.text.specs.WrittenLaws.{wrote-then}
-use Rattle.listing.specs.Lines.{reportLines}
-use Rattle.listing.proofs.lines.report.Statement.{statement}
-use Rattle.listing.proofs.lines.report.Tie as tie
+use Rattle.listing_lines.specs.Lines.{reportLines}
+use Rattle.listing_lines.proofs.report.Statement.{statement}
+use Rattle.listing_lines.proofs.report.Tie as tie
 
 counts-requires : tie.Need-counts-requires
 counts-requires c κs = search needs
