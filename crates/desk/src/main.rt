@@ -156,8 +156,8 @@ fn keep(i: usize, accepted: bool, made: &[u8], answer: &[u8]) {
 
 // The index of a catalogue's bytes, made in the lent room.
 fn make(catalogue: &[u8], floor: i64, index: &mut [u8]) {
-    let mut line = [0u8; desk_lines::LINE];
-    let made = desk_lines::index(catalogue, floor, index, &mut line);
+    let mut line = [0u8; index_lines::LINE];
+    let made = index_lines::index(catalogue, floor, index, &mut line);
     let bytes = made.bytes;
     let length = made.line;
     keep(4, made.accepted, &index[..bytes], &line[..length]);

@@ -1,4 +1,2 @@
--- The definitions that the contracts of `desk_lines` cite, and a law.
+-- The definitions that the contracts of `desk_lines` cite.
 pub mod Why
-pub mod Pairs
-pub mod PairsLaws

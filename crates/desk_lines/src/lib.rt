@@ -1,9 +1,6 @@
-// What the desk answers to files and numbers, as a text in a lent room: one module a subcommand.
-mod pairs;
+// What the desk answers to two files and a pixel, as a line in a lent room.
 mod pixel;
 
-pub use pairs::Indexed;
-pub use pairs::index;
 pub use pixel::why;
 
 // The bytes that a room for any line has.

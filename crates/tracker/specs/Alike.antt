@@ -17,7 +17,7 @@ use Rattle.search.specs.Identified.{identificationOf}
 use Rattle.search.specs.Alike.{search-same}
 use Rattle.tracker.specs.declared.Settings.{Settings}
 use Rattle.tracker.specs.declared.Tracked.{Tracked}
-use Rattle.tracker.specs.Orient.{orientationOf}
+use Rattle.orient.specs.Orient.{orientationOf}
 use Rattle.tracker.specs.Chain.{refusedWith, oriented, settledOf, sightsOf, ourRanking, ourIdentification, locatedOf, rankedRoom, Call, call, listed, settingsRows, demandRows, refusalsOf, trackedOf, roomAfter, namesOf}
 
 module _ {first second : List ℕ} (a : Alike first second) where

@@ -33,7 +33,7 @@ use Rattle.attitude.specs.Entries.{MatrixWithin}
 use Rattle.attitude.specs.Laws.{in-range-answer, entries-within}
 use Rattle.tracker.specs.declared.Settings.{Settings}
 use Rattle.tracker.specs.declared.Tracked.{Tracked}
-use Rattle.tracker.specs.Orient.{orientationOf}
+use Rattle.orient.specs.Orient.{orientationOf}
 use Rattle.tracker.specs.Chain.{Call, listed, zeros, refusedWith, oriented, settledOf, sightsOf, ourIdentification, locatedOf, settingsRows, demandRows, refusalsOf, trackedOf}
 use Rattle.tracker.specs.Ready.{Ready}
 use Rattle.tracker.specs.AdmitLaws.{refusals-joined}

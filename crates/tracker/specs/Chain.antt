@@ -30,7 +30,7 @@ use Rattle.attitude.specs.declared.Attitude.the-variants as attitude
 use Rattle.tracker.specs.declared.Settings.{Settings}
 use Rattle.tracker.specs.declared.Tracked.{Tracked}
 use Rattle.tracker.specs.Sight.{directionsOf}
-use Rattle.tracker.specs.Orient.{orientationOf}
+use Rattle.orient.specs.Orient.{orientationOf}
 
 -- ---- an answer
 

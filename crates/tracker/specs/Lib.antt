@@ -1,8 +1,6 @@
 -- The definitions that the chain's contract cites, and their laws.
 pub mod Sight
 pub mod SightLaws
-pub mod Orient
-pub mod OrientLaws
 pub mod Chain
 pub mod Ready
 pub mod AdmitLaws

@@ -26,7 +26,7 @@ use Rattle.search.specs.Identified as sought
 use Rattle.fit.specs.Fit.{problem}
 use Rattle.tracker.specs.declared.Settings.{Settings}
 use Rattle.tracker.specs.declared.Tracked.{Tracked}
-use Rattle.tracker.specs.Orient.{orientationOf}
+use Rattle.orient.specs.Orient.{orientationOf}
 use Rattle.tracker.specs.Chain.{Call, listed, refusalsOf, refusedWith, oriented, settledOf, sightsOf, ourRanking, ourIdentification, locatedOf, trackedOf}
 use Rattle.tracker.specs.Ready.{Ready}
 use Rattle.tracker.specs.ReadyLaws.{Early, refused-early, ready}

@@ -23,7 +23,7 @@ use Rattle.attitude.specs.declared.Attitude.the-variants as attitude
 use Rattle.attitude.specs.Attitude.{outOfRange, eitherClose, matrixOf, attitudeOf}
 use Rattle.tracker.specs.declared.Tracked.{Tracked}
 use Rattle.tracker.specs.Chain.{refusedWith, oriented, settledOf}
-use Rattle.tracker.specs.Orient.{orientationOf, attitudeBy}
+use Rattle.orient.specs.Orient.{orientationOf, attitudeBy}
 
 -- the number of a refusal, and 0 where there is none
 numberIn : Outcome → ℕ

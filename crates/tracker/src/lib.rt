@@ -1,7 +1,6 @@
 // The whole chain as one call: a frame, a catalogue and settings in, the stars' names and the attitude out.
 pub mod admit;
 pub mod locate;
-mod orient;
 pub mod sight;
 
 use attitude::Matrix;

@@ -1,7 +1,6 @@
 // The steps behind the frame's list: directions, ranking, search and attitude.
 use crate::Settings;
 use crate::Tracked;
-use crate::orient;
 use crate::refused;
 use crate::sight;
 use attitude::Attitude;

@@ -18,7 +18,7 @@ use Rattle.catalogue.specs.Lent.{lent-within, lent-stars}
 use Rattle.assignment.specs.Problem.{assigned}
 use Rattle.attitude.specs.declared.Attitude.{Attitude}
 use Rattle.tracker.specs.Chain.{refusedWith, oriented, settledOf}
-use Rattle.tracker.specs.Orient.{orientationOf}
+use Rattle.orient.specs.Orient.{orientationOf}
 use Rattle.tracker.specs.declared.Tracked.{Tracked}
 use Rattle.tracker.proofs.locate.settle.Statement.{statement}
 use Rattle.tracker.proofs.locate.settle.Tie as tie

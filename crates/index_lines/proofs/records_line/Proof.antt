@@ -1,10 +1,10 @@
--- `desk_lines::pairs::records_line` meets its contract: the number behind its word. Assumes nothing.
+-- `index_lines::records_line` meets its contract: the number behind its word. Assumes nothing.
 use borrow.Author.Needs.{needs}
 use native.Mathlib.Omega.{arith}
 use Rattle.text.specs.WrittenLaws.{wrote-then}
-use Rattle.desk_lines.specs.Pairs.{recordsLine}
-use Rattle.desk_lines.proofs.pairs.records_line.Statement.{statement}
-use Rattle.desk_lines.proofs.pairs.records_line.Tie as tie
+use Rattle.index_lines.specs.Pairs.{recordsLine}
+use Rattle.index_lines.proofs.records_line.Statement.{statement}
+use Rattle.index_lines.proofs.records_line.Tie as tie
 
 slice-aggregate-labelled : tie.Need-slice-aggregate-labelled
 slice-aggregate-labelled c = search needs

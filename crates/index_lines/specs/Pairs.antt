@@ -8,7 +8,7 @@ use Rattle.text.specs.Ascii.{ascii}
 use Rattle.text.specs.Decimal.{labelled}
 use Rattle.text.specs.Refused.{refusalLine}
 use Rattle.text.specs.Room.{lengthIn}
-use Rattle.desk_lines.specs.declared.pairs.Indexed.{Indexed}
+use Rattle.index_lines.specs.declared.Indexed.{Indexed}
 
 unfoldable pub recordsLine : ℕ → List ℕ
 recordsLine n = labelled "records " n ++ ascii "\n"

@@ -1,4 +1,4 @@
--- `tracker::orient::attitude_of` meets its contract. Two directions at least are assigned, so that the first and the second assigned one are
+-- `orient::attitude_of` meets its contract. Two directions at least are assigned, so that the first and the second assigned one are
 -- directions with stars. Assumes nothing.
 use borrow.Author.Needs.{needs}
 use mathlib.Core.Path.{_≡_, sym, ap, _∙_}
@@ -9,10 +9,10 @@ use lib.ListN.{length}
 use Rattle.vectors.specs.Triples.{tripleAt}
 use Rattle.attitude.specs.Attitude.{attitudeOf}
 use Rattle.assignment.specs.Order.{at}
-use Rattle.tracker.specs.Orient.{assignedFrom, firstAssigned, secondAssigned, orientationOf}
-use Rattle.tracker.specs.OrientLaws.{first-within, second-within, from-taken}
-use Rattle.tracker.proofs.orient.attitude_of.Statement.{statement}
-use Rattle.tracker.proofs.orient.attitude_of.Tie as tie
+use Rattle.orient.specs.Orient.{assignedFrom, firstAssigned, secondAssigned, orientationOf}
+use Rattle.orient.specs.OrientLaws.{first-within, second-within, from-taken}
+use Rattle.orient.proofs.attitude_of.Statement.{statement}
+use Rattle.orient.proofs.attitude_of.Tie as tie
 
 -- ---- the two directions that the definition names, at the call's entry
 

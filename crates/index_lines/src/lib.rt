@@ -6,7 +6,10 @@ ghost use lib.ListN.{length};
 ghost use Rattle.index.specs.Build.{builtOf, roomAfter};
 ghost use Rattle.text.specs.Room.{roomWith, lengthIn};
 ghost use Rattle.text.specs.Written.{Wrote};
-ghost use Rattle.desk_lines.specs.Pairs.{recordsLine, builtLine, indexedOf};
+ghost use Rattle.index_lines.specs.Pairs.{recordsLine, builtLine, indexedOf};
+
+// The bytes that a room for any line has.
+pub const LINE: usize = 128;
 
 // What the desk has of an index.
 pub struct Indexed {
@@ -42,7 +45,7 @@ fn whole_line(room: &mut [u8], built: Built) -> usize
     ensures { λ r. ⌜ now (room .exit) ≡ roomWith 128 (now (room .entry)) (builtLine built) ⌝ }
     ensures { λ r. ⌜ r ≤ 72 ⌝ }
 {
-    if room.len() < crate::LINE {
+    if room.len() < LINE {
         return 0;
     }
     line(room, built)

@@ -4,7 +4,7 @@ ghost use mathlib.Core.Path.{_≡_};
 ghost use Prim.Native.Nat.{_+_, _/_, _≤_};
 ghost use lib.ListN.{length};
 ghost use Rattle.assignment.specs.Problem.{assigned};
-ghost use Rattle.tracker.specs.Orient.{assignedFrom, orientationOf};
+ghost use Rattle.orient.specs.Orient.{assignedFrom, orientationOf};
 
 // A word of an assignment as a number.
 fn number_of(word: u16) -> usize
@@ -30,7 +30,7 @@ fn assigned_from(words: [u16; 8], from: usize, directions: usize, stars: usize) 
 }
 
 // The attitude of an assignment that gives at least two directions a star.
-pub(crate) fn attitude_of(directions: &[i32], stars: &[i64], words: [u16; 8]) -> Attitude
+pub fn attitude_of(directions: &[i32], stars: &[i64], words: [u16; 8]) -> Attitude
     requires { ⌜ (length (now directions) / 3 ≤ 8) × (2 ≤ assigned (length (now stars) / 3) words (length (now directions) / 3)) ⌝ }
     ensures { λ r. ⌜ r ≡ orientationOf (now (directions .entry)) (now (stars .entry)) words ⌝ }
 {

@@ -1,4 +1,4 @@
--- `tracker::orient::assigned_from` meets its contract. The invariant: no direction passed has a star. Assumes nothing.
+-- `orient::assigned_from` meets its contract. The invariant: no direction passed has a star. Assumes nothing.
 use borrow.Author.Needs.{needs}
 use borrow.Author.Count.{below-more}
 use borrow.Author.Tests.{le-leb, lt-leb, lt-ltb, le-ltb}
@@ -10,12 +10,12 @@ use native.Mathlib.Omega.{arith}
 use lib.Dec.{leb, ltb}
 use Rattle.counting.specs.First.{First, first-of}
 use Rattle.assignment.specs.Order.{at}
-use Rattle.tracker.specs.Orient.{assignedFrom}
-use Rattle.tracker.proofs.orient.assigned_from.Statement.{statement}
-use Rattle.tracker.proofs.orient.assigned_from.Tie as tie
-use Rattle.tracker.proofs.orient.assigned_from.Reads as reads
-use Rattle.tracker.proofs.orient.assigned_from.Lts as lts
-use Rattle.tracker.proofs.orient.number_of.Reads as number-of-reads
+use Rattle.orient.specs.Orient.{assignedFrom}
+use Rattle.orient.proofs.assigned_from.Statement.{statement}
+use Rattle.orient.proofs.assigned_from.Tie as tie
+use Rattle.orient.proofs.assigned_from.Reads as reads
+use Rattle.orient.proofs.assigned_from.Lts as lts
+use Rattle.orient.proofs.number_of.Reads as number-of-reads
 
 abbrev Inv-loop : tie.InvT-loop
 Inv-loop from directions stars words i₀ i = (from ≤ i) × (i ≤ directions) × ((j : ℕ) → j < i → leb from j && ltb (at words j) stars ≡ false)

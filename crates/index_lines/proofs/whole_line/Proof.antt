@@ -1,9 +1,9 @@
--- `desk_lines::pairs::whole_line` meets its contract: no line is longer than the room, so all of it stands there. Assumes nothing.
+-- `index_lines::whole_line` meets its contract: no line is longer than the room, so all of it stands there. Assumes nothing.
 use borrow.Author.Needs.{needs}
 use native.Mathlib.Omega.{arith}
 use Rattle.text.specs.RoomLaws.{room-short, room-whole}
-use Rattle.desk_lines.proofs.pairs.whole_line.Statement.{statement}
-use Rattle.desk_lines.proofs.pairs.whole_line.Tie as tie
+use Rattle.index_lines.proofs.whole_line.Statement.{statement}
+use Rattle.index_lines.proofs.whole_line.Tie as tie
 
 returns : tie.Need-returns
 returns c =

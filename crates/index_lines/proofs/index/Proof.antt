@@ -1,4 +1,4 @@
--- `desk_lines::pairs::index` meets its contract: what was built, and its line. Assumes nothing.
+-- `index_lines::index` meets its contract: what was built, and its line. Assumes nothing.
 use borrow.Author.Needs.{needs}
 use mathlib.Core.Path.{_≡_, sym, ap, _∙_}
 use mathlib.Core.List.{List}
@@ -15,11 +15,11 @@ use Rattle.index.specs.declared.Built.{Built}
 use Rattle.index.specs.declared.Built.the-variants.{Refused, Records}
 use Rattle.index.specs.Build.{builtOf, roomAfter}
 use Rattle.text.specs.Room.{roomWith, lengthIn}
-use Rattle.desk_lines.specs.declared.pairs.Indexed.{Indexed}
-use Rattle.desk_lines.specs.Pairs.{builtLine, indexedOf}
-use Rattle.desk_lines.specs.PairsLaws.{index-within}
-use Rattle.desk_lines.proofs.pairs.index.Statement.{statement}
-use Rattle.desk_lines.proofs.pairs.index.Tie as tie
+use Rattle.index_lines.specs.declared.Indexed.{Indexed}
+use Rattle.index_lines.specs.Pairs.{builtLine, indexedOf}
+use Rattle.index_lines.specs.PairsLaws.{index-within}
+use Rattle.index_lines.proofs.index.Statement.{statement}
+use Rattle.index_lines.proofs.index.Tie as tie
 
 -- what is left to say once the outcome is known
 module _

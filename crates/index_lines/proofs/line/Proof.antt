@@ -1,4 +1,4 @@
--- `desk_lines::pairs::line` meets its contract: a refusal or a number of records. Assumes nothing.
+-- `index_lines::line` meets its contract: a refusal or a number of records. Assumes nothing.
 use borrow.Author.Needs.{needs}
 use mathlib.Core.Path.{_≡_}
 use mathlib.Core.List.{List}
@@ -6,9 +6,9 @@ use Prim.Native.Nat.{ℕ}
 use native.Mathlib.Omega.{arith}
 use Rattle.index.specs.declared.Built.{Built}
 use Rattle.text.specs.Written.{Wrote}
-use Rattle.desk_lines.specs.Pairs.{builtLine}
-use Rattle.desk_lines.proofs.pairs.line.Statement.{statement}
-use Rattle.desk_lines.proofs.pairs.line.Tie as tie
+use Rattle.index_lines.specs.Pairs.{builtLine}
+use Rattle.index_lines.proofs.line.Statement.{statement}
+use Rattle.index_lines.proofs.line.Tie as tie
 
 enum-known-built : tie.Need-enum-known-built
 enum-known-built c = search needs
