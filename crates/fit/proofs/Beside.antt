@@ -1,17 +1,16 @@
 -- The test beside the newest star and the words before it is the test beside all words: those behind it are no stars. Assumes nothing.
-use mathlib.Core.Path.{_≡_, refl, sym, ap, subst, _∙_}
-use mathlib.Core.Bool.{Bool, true, false, not, _&&_}
+use mathlib.Core.Path.{_≡_, sym, ap, subst, _∙_}
+use mathlib.Core.Bool.{Bool, true, false, not, _&&_, and-true, and-false}
 use mathlib.Core.List.{List}
-use mathlib.Core.Logic.{inl, inr, ⊎-elim}
-use Prim.Native.Nat.{ℕ, zero, suc, _*_, _+_, _≤_, _<_, zero-le}
+use mathlib.Core.Logic.{⊎-elim}
+use Prim.Native.Nat.{ℕ, zero, suc, _≤_, _<_}
 use native.Mathlib.Omega.{arith}
 use native.Mathlib.Nat.{eq-or-lt-of-le}
 use lib.Dec.{ltb, eqb}
 use lib.IntN.{ℤ, pos, _-ℤ_}
-use lib.ListN.{getD, length}
+use lib.ListN.{getD}
 use borrow.Author.Tests.{lt-ltb, le-ltb, eq-eqb, ne-eqb}
 use Rattle.numbers.specs.Within.{Within, wider, within-sub}
-use Rattle.vectors.specs.declared.Vec3.{Vec3}
 use Rattle.vectors.specs.Vectors.{Within3, dotOf}
 use Rattle.vectors.specs.Agree.{agreeing, near-agreeing}
 use Rattle.vectors.specs.Triples.{tripleAt, pairDot}
@@ -19,18 +18,8 @@ use Rattle.vectors.specs.Laws.{wider3, triple-within, dot-within}
 use Rattle.assignment.specs.Order.{at}
 use Rattle.assignment.specs.Tests.{all, given}
 use Rattle.assignment.specs.Fit.{pairs}
-use Rattle.assignment.proofs.Tests as tests
 use Rattle.fit.specs.declared.Newest.{Newest}
-use Rattle.fit.specs.Fit.{Tested, besides, besidesNewest, Ready, NewestOf}
-
-and-true : (a : Bool) → a && true ≡ a
-and-true true = refl
-and-true false = refl
-
-and-comm : (a b : Bool) → a && b ≡ b && a
-and-comm true b = sym (and-true b)
-and-comm false true = refl
-and-comm false false = refl
+use Rattle.fit.specs.Fit.{Tested, besides, besidesNewest, NewestOf}
 
 -- what holds anyway need not be asked
 asked-before : (n m : ℕ) (f : ℕ → Bool) → n ≤ m → ((q : ℕ) → n ≤ q → q < m → f q ≡ true) → all n f ≡ all m f
@@ -52,9 +41,9 @@ module _ (stars : List ℤ) (count : ℕ) (chosen : List ℕ) (dots : List ℤ) 
   none-behind tolerance star n i l none =
       asked-before n i (λ q. given (ltb (at chosen q) count) (asked tolerance star q)) l (λ q a b. rw (le-ltb (at chosen q) count (none q b a)))
 
-  and-before : (tolerance star j : ℕ) → at chosen j < count → (asked tolerance star j && besides stars count tolerance dots j chosen star) ≡ besides stars count tolerance dots (suc j) chosen star
+  one-more : (tolerance star j : ℕ) → at chosen j < count → (besides stars count tolerance dots j chosen star && asked tolerance star j) ≡ besides stars count tolerance dots (suc j) chosen star
   unfolding besides pairs all
-  and-before tolerance star j l = and-comm (asked tolerance star j) (besides stars count tolerance dots j chosen star) ∙ ap (λ (b : Bool). besides stars count tolerance dots j chosen star && given b (asked tolerance star j)) (sym (lt-ltb (at chosen j) count l))
+  one-more tolerance star j l = ap (λ (b : Bool). besides stars count tolerance dots j chosen star && given b (asked tolerance star j)) (sym (lt-ltb (at chosen j) count l))
 
   -- what the test beside the words before the newest star is handed
   fewer : (i j : ℕ) → j ≤ i → Tested stars count chosen dots i → Tested stars count chosen dots j
@@ -72,8 +61,8 @@ module _ (stars : List ℤ) (count : ℕ) (chosen : List ℕ) (dots : List ℤ) 
           near-dot = subst (Within 3000000000000000000) (sym ed) (t .near-dots .at j);
         };
         same = λ tolerance star ls.
-            (λ k. (not (eqb (es k) star) && agreeing (ed k) (dotOf (ep k) (tripleAt stars star)) tolerance) && besides stars count tolerance dots (eb k) chosen star)
-            ∙ and-before tolerance star j lj ∙ none-behind tolerance star (suc j) i l none;
+            (λ k. besides stars count tolerance dots (eb k) chosen star && (not (eqb (es k) star) && agreeing (ed k) (dotOf (ep k) (tripleAt stars star)) tolerance))
+            ∙ one-more tolerance star j lj ∙ none-behind tolerance star (suc j) i l none;
       }
 
   -- there is none
@@ -86,8 +75,8 @@ module _ (stars : List ℤ) (count : ℕ) (chosen : List ℕ) (dots : List ℤ) 
         same = λ tolerance star ls.
             let d : (n .star ≡ star → ⊥) = λ e. omega arith in
             let w : Within 0 (n .dot -ℤ dotOf (n .place) (tripleAt stars star)) = within-sub wd (dot-within wp (triple-within (t .near-stars) star)) in
-            (λ k. (not (ne-eqb (n .star) star d k) && near-agreeing (n .dot) (dotOf (n .place) (tripleAt stars star)) tolerance (omega (arith, w .within)) k) && besides stars count tolerance dots (eb k) chosen star)
-            ∙ none-behind tolerance star 0 i (omega arith) (λ q l z. none q l);
+            (λ k. besides stars count tolerance dots (eb k) chosen star && (not (ne-eqb (n .star) star d k) && near-agreeing (n .dot) (dotOf (n .place) (tripleAt stars star)) tolerance (omega (arith, w .within)) k))
+            ∙ and-true (besides stars count tolerance dots 0 chosen star) ∙ none-behind tolerance star 0 i (omega arith) (λ q l z. none q l);
       }
 
   -- ---- how the test goes
@@ -95,12 +84,12 @@ module _ (stars : List ℤ) (count : ℕ) (chosen : List ℕ) (dots : List ℤ) 
   module _ (tolerance : ℕ) (n : Newest) (star : ℕ) where
     pub itself : n .star ≡ star → false ≡ besidesNewest stars count tolerance dots chosen n star
     unfolding besidesNewest
-    itself e = rw (eq-eqb (n .star) star e)
+    itself e = rw (eq-eqb (n .star) star e) (sym (and-false (besides stars count tolerance dots (n .before) chosen star)))
 
     pub disagrees : agreeing (n .dot) (dotOf (n .place) (tripleAt stars star)) tolerance ≡ false → false ≡ besidesNewest stars count tolerance dots chosen n star
     unfolding besidesNewest
-    disagrees e = sym (tests.and-false _ _ (inl (tests.and-false (not (eqb (n .star) star)) _ (inr e))))
+    disagrees e = rw (e, and-false (not (eqb (n .star) star))) (sym (and-false (besides stars count tolerance dots (n .before) chosen star)))
 
     pub goes-on : (n .star ≡ star → ⊥) → agreeing (n .dot) (dotOf (n .place) (tripleAt stars star)) tolerance ≡ true → besides stars count tolerance dots (n .before) chosen star ≡ besidesNewest stars count tolerance dots chosen n star
     unfolding besidesNewest
-    goes-on d e = rw (ne-eqb (n .star) star d, e)
+    goes-on d e = rw (ne-eqb (n .star) star d, e) (sym (and-true (besides stars count tolerance dots (n .before) chosen star)))

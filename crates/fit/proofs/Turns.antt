@@ -28,7 +28,7 @@ module _ (directions : List ℤ) (i : ℕ) where
       (λ (e : p < q). getD-set-other turns q p z (pos 0) (λ f. omega arith) ∙ h p e a b)
       (eq-or-lt-of-le (omega arith))
 
-  pub all-turns : (turns : List ℤ) → i < 8 → length turns ≡ 64 → TurnsTo directions i turns 64 → Turned directions i turns
+  pub all-turns : (turns : List ℤ) → i < 8 → length turns ≡ 64 → TurnsTo directions i turns (8 * i) → Turned directions i turns
   all-turns turns l size h =
       record {
         size = size;

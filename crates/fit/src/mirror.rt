@@ -33,9 +33,10 @@ pub fn turns(directions: &[i32], i: usize) -> [i64; 64]
     requires { ⌜ (i < 8) × (3 * i + 3 ≤ length (now directions)) × AllWithin 1000000000 (now directions) ⌝ }
     ensures { λ r. ⌜ Turned (now (directions .entry)) i r ⌝ }
 {
+    let end = 8 * i;
     let mut turns = [0i64; 64];
     let mut q = 0;
-    while q < 64 {
+    while q < end {
         turns[q] = turn_of(directions, q / 8, q % 8, i);
         q += 1;
     }

@@ -10,10 +10,13 @@ use Rattle.fit.proofs.mirror.turns.Statement.{statement}
 use Rattle.fit.proofs.mirror.turns.Tie as tie
 
 abbrev Inv-loop : tie.InvT-loop
-Inv-loop directions i turns₀ q₀ turns q = (q ≤ 64) × ((length turns ≡ 64) × TurnsTo directions i turns q)
+Inv-loop directions i end turns₀ q₀ turns q = (q ≤ end) × ((length turns ≡ 64) × TurnsTo directions i turns q)
 
 abbrev μ-loop : tie.MeasureT-loop
-μ-loop directions i turns₀ q₀ turns q = 64 - q
+μ-loop directions i end turns₀ q₀ turns q = end - q
+
+mul-end : tie.Need-mul-end Inv-loop μ-loop
+mul-end c = omega arith
 
 loop-holds : tie.Need-loop-holds Inv-loop μ-loop
 loop-holds c = (omega arith, (refl, λ p l. absurd (omega arith)))
@@ -49,6 +52,7 @@ turns-spec =
     (tie.spec
     Inv-loop
     μ-loop
+    mul-end
     loop-holds
     turn-of-requires
     mul-turns
