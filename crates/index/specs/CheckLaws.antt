@@ -19,10 +19,10 @@ use Rattle.index_records.specs.Order.{sorted}
 use Rattle.index_records.specs.OrderLaws.{sorted-same, sorted-length, sorted-all}
 use Rattle.index_records.specs.Gap.{Holds}
 use Rattle.index_records.specs.Carry.{holds-length, holds-key}
-use Rattle.index_records.specs.Rising.{Place, place, steps-rising, rising-step, within-one, count-at}
+use Rattle.index_records.specs.Rising.{place, steps-rising, rising-step, within-one, count-at}
 use Rattle.index_records.specs.Read.{keysIn, keys-length, keys-at, Bytes, low-most, read-back}
 use Rattle.index.specs.Raised.{raised}
-use Rattle.index.specs.Index.{keyOf, pairsOf, keysOf, indexOf}
+use Rattle.index.specs.Index.{keyOf, pairsOf, indexOf}
 use Rattle.index.specs.IndexSteps.{index-is}
 use Rattle.index.specs.KeyLaws.{pairs-keys}
 use Rattle.index.specs.Pairs.{PairOf, pair-of, pair-once, pairs-rising}
