@@ -13,7 +13,7 @@ triple-at-requires : tie.Need-triple-at-requires
 triple-at-requires c κs = search needs
 
 dot-requires : tie.Need-dot-requires
-dot-requires c κs = let o = c .before in (o .pre .1 .0, rw (c .triple-at .ensures) (triple-within (o .pre .1 .1 .1) (o .args .a)))
+dot-requires c κs = let o = c .before in (o .pre .1 .0, rw (c .triple-at .ensures) (triple-within (o .pre .1 .1 .1) _))
 
 agree-requires : tie.Need-agree-requires
 agree-requires c κs = search needs
