@@ -23,12 +23,20 @@ pub(crate) fn identity(bytes: &[u8], i: usize) -> u32
     words::u32_at(bytes, RECORD_SIZE * i)
 }
 
-// Component 0, 1 or 2 of record i: x, y or z. It is wide, as products of it are.
-pub(crate) fn component(bytes: &[u8], i: usize, axis: usize) -> i64
+// Component 0, 1 or 2 of record i: x, y or z.
+pub(crate) fn component(bytes: &[u8], i: usize, axis: usize) -> i32
     requires { ⌜ (recordSize * i + recordSize ≤ length (now bytes)) × (axis < 3) ⌝ }
     ensures { λ r. ⌜ r ≡ componentOf (now (bytes .entry)) i axis ⌝ }
 {
-    signed(words::u32_at(bytes, RECORD_SIZE * i + (4 + 4 * axis))) as i64
+    signed(words::u32_at(bytes, RECORD_SIZE * i + (4 + 4 * axis)))
+}
+
+// The same as a wide number.
+pub(crate) fn wide_component(bytes: &[u8], i: usize, axis: usize) -> i64
+    requires { ⌜ (recordSize * i + recordSize ≤ length (now bytes)) × (axis < 3) ⌝ }
+    ensures { λ r. ⌜ r ≡ componentOf (now (bytes .entry)) i axis ⌝ }
+{
+    component(bytes, i, axis) as i64
 }
 
 // The magnitude of record i, in thousandths.

@@ -72,14 +72,28 @@ fn stars_in(bytes: &[u8]) -> usize
 }
 
 // The stars of a catalogue as numbers, x, y and z of each in turn, with zeros behind the last.
-pub fn stars(bytes: &[u8]) -> [i64; 1536]
+pub fn stars(bytes: &[u8]) -> [i32; 1536]
+    ensures { λ r. ⌜ r ≡ padded (starsOf (now (bytes .entry))) ⌝ }
+{
+    let count = 3 * stars_in(bytes);
+    let mut numbers = [0i32; 1536];
+    let mut k = 0;
+    while k < count {
+        numbers[k] = format::component(bytes, k / 3, k % 3);
+        k += 1;
+    }
+    numbers
+}
+
+// The same as wide numbers, for a look at all pairs of stars: they are multiplied as they are.
+pub fn wide_stars(bytes: &[u8]) -> [i64; 1536]
     ensures { λ r. ⌜ r ≡ padded (starsOf (now (bytes .entry))) ⌝ }
 {
     let count = 3 * stars_in(bytes);
     let mut numbers = [0i64; 1536];
     let mut k = 0;
     while k < count {
-        numbers[k] = format::component(bytes, k / 3, k % 3);
+        numbers[k] = format::wide_component(bytes, k / 3, k % 3);
         k += 1;
     }
     numbers

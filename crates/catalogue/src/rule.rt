@@ -53,9 +53,9 @@ fn star_ok(bytes: &[u8], i: usize) -> bool
     requires { ⌜ recordSize * i + recordSize ≤ length (now bytes) ⌝ }
     ensures { λ r. ⌜ r ≡ starOk (now (bytes .entry)) i ⌝ }
 {
-    let x = format::component(bytes, i, 0);
-    let y = format::component(bytes, i, 1);
-    let z = format::component(bytes, i, 2);
+    let x = format::component(bytes, i, 0) as i64;
+    let y = format::component(bytes, i, 1) as i64;
+    let z = format::component(bytes, i, 2) as i64;
     if !direction_ok(x, y, z) {
         return false;
     }

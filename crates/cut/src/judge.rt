@@ -101,7 +101,7 @@ pub(crate) fn judge(bytes: &[u8], limit: i32, closeness: i64) -> [u8; 512]
     ensures { λ r. ⌜ Settled (now (bytes .entry)) limit closeness r ⌝ }
 {
     let mut marks = magnitudes(bytes, limit);
-    let numbers = catalogue::stars(bytes);
+    let numbers = catalogue::wide_stars(bytes);
     let end = 3 * catalogue::records(bytes);
     crowd_all(&numbers[..end], closeness, &mut marks);
     marks

@@ -40,7 +40,7 @@ fn differs(stars: usize, n: usize, ours: &[u16], chosen: &[u16]) -> bool
 // Whether direction j is left to differ: ours gives it the star `own`, and another may stand there beside the first i words chosen.
 fn left_to_differ(
     directions: &[i32],
-    stars: &[i64],
+    stars: &[i32],
     setup: Setup,
     chosen: &[u16],
     own: usize,
@@ -67,7 +67,7 @@ fn left_to_differ(
 // exactly where none differs and none is left to.
 pub fn may_differ(
     directions: &[i32],
-    stars: &[i64],
+    stars: &[i32],
     setup: Setup,
     ours: &[u16],
     chosen: &[u16],

@@ -51,18 +51,18 @@ pub fn measured(directions: &[i32], i: usize, n: usize) -> [i64; 8]
 }
 
 // Whether a dot product of two directions agrees with that of the stars a and b.
-fn agrees(dot: i64, stars: &[i64], tolerance: u64, a: usize, b: usize) -> bool
+fn agrees(dot: i64, stars: &[i32], tolerance: u64, a: usize, b: usize) -> bool
     requires { ⌜ Within 3000000000000000000 dot ⌝ }
     requires { ⌜ (3 * a + 3 ≤ length (now stars)) × (3 * b + 3 ≤ length (now stars)) ⌝ }
     requires { ⌜ AllWithin 1000000000 (now stars) ⌝ }
     ensures { λ r. ⌜ r ≡ agreeing dot (pairDot (now (stars .entry)) a b) tolerance ⌝ }
 {
-    vectors::agree(dot, vectors::wide::pair_dot(stars, a, b), tolerance)
+    vectors::agree(dot, vectors::pair_dot(stars, a, b), tolerance)
 }
 
 // Whether the star may stand beside the first i words chosen, the newest first: none of them is this star, and each star among them agrees.
 fn stands_beside(
-    stars: &[i64],
+    stars: &[i32],
     count: usize,
     tolerance: u64,
     chosen: &[u16],
@@ -91,7 +91,7 @@ fn stands_beside(
 }
 
 // The newest star of the first i words chosen. Where there is none it is no star at all, and agrees with every star.
-pub fn newest_of(stars: &[i64], count: usize, chosen: &[u16], dots: &[i64], i: usize) -> Newest
+pub fn newest_of(stars: &[i32], count: usize, chosen: &[u16], dots: &[i64], i: usize) -> Newest
     requires { ⌜ Tested (now stars) count (now chosen) (now dots) i ⌝ }
     ensures { λ r. ⌜ NewestOf (now (stars .entry)) count (now (chosen .entry)) (now (dots .entry)) i r ⌝ }
 {
@@ -103,7 +103,7 @@ pub fn newest_of(stars: &[i64], count: usize, chosen: &[u16], dots: &[i64], i: u
             return Newest {
                 before: k,
                 star: star,
-                place: vectors::wide::triple_at(stars, star),
+                place: vectors::triple_at(stars, star),
                 dot: dots[k],
             };
         }
@@ -118,7 +118,7 @@ pub fn newest_of(stars: &[i64], count: usize, chosen: &[u16], dots: &[i64], i: u
 
 // Whether the star may stand beside the newest star and the words before it.
 pub fn passes(
-    stars: &[i64],
+    stars: &[i32],
     count: usize,
     tolerance: u64,
     chosen: &[u16],
@@ -143,7 +143,7 @@ pub fn passes(
 
 // Whether the star may stand there by both rules, over every two and every three. The threes are asked only of a star that agrees.
 pub fn may_stand(
-    stars: &[i64],
+    stars: &[i32],
     count: usize,
     tolerance: u64,
     chosen: &[u16],

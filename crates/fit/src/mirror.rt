@@ -44,22 +44,22 @@ pub fn turns(directions: &[i32], i: usize) -> [i64; 64]
 }
 
 // Whether three stars are the mirror image of three directions with that triple product.
-fn is_mirrored(turn: i64, stars: &[i64], a: usize, b: usize, c: usize) -> bool
+fn is_mirrored(turn: i64, stars: &[i32], a: usize, b: usize, c: usize) -> bool
     requires { ⌜ (3 * a + 3 ≤ length (now stars)) × (3 * b + 3 ≤ length (now stars)) × (3 * c + 3 ≤ length (now stars)) ⌝ }
     requires { ⌜ AllWithin 1000000000 (now stars) ⌝ }
     ensures { λ r. ⌜ r ≡ mirrored turn (tripleOf (tripleAt (now (stars .entry)) a) (tripleAt (now (stars .entry)) b) (tripleAt (now (stars .entry)) c)) ⌝ }
 {
     let product = handedness::triple_product(
-        vectors::wide::triple_at(stars, a),
-        vectors::wide::triple_at(stars, b),
-        vectors::wide::triple_at(stars, c),
+        vectors::triple_at(stars, a),
+        vectors::triple_at(stars, b),
+        vectors::triple_at(stars, c),
     );
     handedness::are_mirrored(turn, product)
 }
 
 // Whether the star makes no mirror image with the second of two earlier stars, which stands at k, and any first before it.
 fn upright_beside(
-    stars: &[i64],
+    stars: &[i32],
     count: usize,
     chosen: &[u16],
     turns: &[i64],
@@ -87,7 +87,7 @@ fn upright_beside(
 
 // Whether the star makes no mirror image with any two of the first i words chosen.
 pub fn is_upright(
-    stars: &[i64],
+    stars: &[i32],
     count: usize,
     chosen: &[u16],
     turns: &[i64],

@@ -43,12 +43,12 @@ fn agree(p: i64, q: i64, tolerance: u64) -> bool
 }
 
 // Whether a dot product of two directions agrees with that of a star, which has these numbers, and the star a.
-pub fn agrees_with(dot: i64, star: Vec3, stars: &[i64], tolerance: u64, a: usize) -> bool
+pub fn agrees_with(dot: i64, star: Vec3, stars: &[i32], tolerance: u64, a: usize) -> bool
     requires { ⌜ Within 3000000000000000000 dot ⌝ }
     requires { ⌜ Within3 1000000000 star ⌝ }
     requires { ⌜ (3 * a + 3 ≤ length (now stars)) × AllWithin 1000000000 (now stars) ⌝ }
     ensures { λ r. ⌜ r ≡ agreeing dot (dotOf star (tripleAt (now (stars .entry)) a)) tolerance ⌝ }
 {
-    let product = vectors::dot(star, vectors::wide::triple_at(stars, a));
+    let product = vectors::dot(star, vectors::triple_at(stars, a));
     agree(dot, product, tolerance)
 }

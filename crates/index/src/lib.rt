@@ -70,7 +70,7 @@ pub fn build(catalogue: &[u8], floor: i64, room: &mut [u8]) -> Built
     match checked {
         Checked::Refused(r) => Built::Refused(r),
         Checked::Records(n) => {
-            let numbers = catalogue::stars(catalogue);
+            let numbers = catalogue::wide_stars(catalogue);
             let end = 3 * n;
             build_from(&numbers[..end], floor, room)
         }

@@ -78,7 +78,7 @@ pub fn rank(
     match checked {
         Checked::Refused(r) => Outcome::Refused(r),
         Checked::Records(n) => {
-            let numbers = catalogue::stars(catalogue);
+            let numbers = catalogue::wide_stars(catalogue);
             let end = 3 * n;
             rank_from(directions, &numbers[..end], index, floor, tolerance, room)
         }

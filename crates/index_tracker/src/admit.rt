@@ -25,7 +25,7 @@ pub(crate) fn stars_outcome(bytes: &[u8], index: &[u8], floor: i64) -> Outcome
     match checked {
         Checked::Refused(r) => Outcome::Refused(r),
         Checked::Records(n) => {
-            let numbers = catalogue::stars(bytes);
+            let numbers = catalogue::wide_stars(bytes);
             let end = 3 * n;
             index_outcome(&numbers[..end], index, floor)
         }

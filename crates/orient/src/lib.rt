@@ -30,7 +30,7 @@ fn assigned_from(words: [u16; 8], from: usize, directions: usize, stars: usize) 
 }
 
 // The attitude of an assignment that gives at least two directions a star.
-pub fn attitude_of(directions: &[i32], stars: &[i64], words: [u16; 8]) -> Attitude
+pub fn attitude_of(directions: &[i32], stars: &[i32], words: [u16; 8]) -> Attitude
     requires { ⌜ (length (now directions) / 3 ≤ 8) × (2 ≤ assigned (length (now stars) / 3) words (length (now directions) / 3)) ⌝ }
     ensures { λ r. ⌜ r ≡ orientationOf (now (directions .entry)) (now (stars .entry)) words ⌝ }
 {
@@ -41,7 +41,7 @@ pub fn attitude_of(directions: &[i32], stars: &[i64], words: [u16; 8]) -> Attitu
     attitude::triad(
         vectors::triple_at(directions, i),
         vectors::triple_at(directions, j),
-        vectors::wide::triple_at(stars, number_of(words[i])),
-        vectors::wide::triple_at(stars, number_of(words[j])),
+        vectors::triple_at(stars, number_of(words[i])),
+        vectors::triple_at(stars, number_of(words[j])),
     )
 }

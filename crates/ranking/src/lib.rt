@@ -62,7 +62,7 @@ pub fn rank(directions: &[i32], catalogue: &[u8], tolerance: u64, room: &mut [u1
     match outcome {
         Outcome::Refused(r) => Outcome::Refused(r),
         Outcome::Accepted => {
-            let numbers = catalogue::stars(catalogue);
+            let numbers = catalogue::wide_stars(catalogue);
             let end = 3 * catalogue::records(catalogue);
             write_ranking(directions, &numbers[..end], tolerance, room);
             Outcome::Accepted

@@ -19,7 +19,7 @@ pub struct Contest {
 fn first_rival(
     ranking: &[u16],
     directions: &[i32],
-    stars: &[i64],
+    stars: &[i32],
     needed: usize,
     tolerance: u64,
     ours: [u16; 8],

@@ -35,7 +35,7 @@ pub fn demand_ok(needed: usize, tolerance: u64) -> bool
 fn first_fit(
     ranking: &[u16],
     directions: &[i32],
-    stars: &[i64],
+    stars: &[i32],
     needed: usize,
     tolerance: u64,
 ) -> Answer

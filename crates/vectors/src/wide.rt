@@ -1,4 +1,4 @@
-// Triples in a list of wide numbers. The stars are kept so: they are read far more often than written, and a wide one is multiplied as it is.
+// Triples in a list of wide numbers. Stars whose pairs are all looked at are kept so: a wide number is multiplied as it is.
 use crate::Vec3;
 use crate::dot;
 ghost use mathlib.Core.Path.{_≡_};

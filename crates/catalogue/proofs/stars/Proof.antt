@@ -4,7 +4,7 @@ use mathlib.Core.Path.{_≡_, sym, _∙_}
 use Prim.Native.Nat.{_-_, _≤_}
 use native.Mathlib.Omega.{arith}
 use lib.ListN.{set}
-use mir.Syntax.{w64}
+use mir.Syntax.{w32}
 use Rattle.numbers.specs.Num.{kept}
 use Rattle.catalogue.specs.Stars.{starsOf}
 use Rattle.catalogue.specs.StarsLaws.{stars-length, number-at}
@@ -47,7 +47,7 @@ loop-again c =
     let l = c .before .before .loop in
     let n = c .before .before .before .stars-in .ensures in
     let bytes = c .before .before .before .before .before .args .bytes .now in
-    let e = kept w64 (c .component .ok) (c .component .ensures ∙ sym (number-at bytes (l .k) (omega arith))) in
+    let e = kept w32 (c .component .ok) (c .component .ensures ∙ sym (number-at bytes (l .k) (omega arith))) in
     (omega arith, (λ j. set (l .inv .1 j) (l .k) (e j)) ∙ filled-next (starsOf bytes) (l .k) (omega (arith, stars-length bytes)) (omega arith))
 
 returns : tie.Need-returns Inv-loop μ-loop

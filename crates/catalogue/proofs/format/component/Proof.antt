@@ -1,14 +1,11 @@
 -- `catalogue::format::component` meets its contract. Assumes nothing.
 use mathlib.Core.Path.{ap, _∙_}
-use mir.Syntax.{w32, w64}
-use Rattle.numbers.specs.Num.{Num, held, cast, fits, back}
+use mir.Syntax.{w32}
+use Rattle.numbers.specs.Num.{kept}
 use Rattle.catalogue.specs.Format.{signedOf, componentOf}
 use borrow.Author.Needs.{needs}
 use Rattle.catalogue.proofs.format.component.Statement.{statement}
 use Rattle.catalogue.proofs.format.component.Tie as tie
-
-abbrev whole : tie.After-signed → Num w64
-whole c = cast {w = w32} (held (c .signed .result) (c .signed .ok)) tt
 
 mul-u32-at : tie.Need-mul-u32-at
 mul-u32-at c = search needs
@@ -28,14 +25,11 @@ u32-at-requires c κs = search needs
 signed-requires : tie.Need-signed-requires
 signed-requires c κs = search needs
 
-cast-result : tie.Need-cast-result
-cast-result c = fits (whole c)
-
 returns : tie.Need-returns
 unfolding componentOf
-returns c = back (whole c) ∙ c .signed .ensures ∙ ap signedOf (c .before .u32-at .ensures)
+returns c = kept w32 (c .signed .ok) (c .signed .ensures ∙ ap signedOf (c .before .u32-at .ensures))
 
 pub component-spec : {M : Type 1} → statement M
 component-spec =
     tie.close
-    (tie.spec mul-u32-at mul-u32-at-2 add-u32-at add-u32-at-2 u32-at-requires signed-requires cast-result returns)
+    (tie.spec mul-u32-at mul-u32-at-2 add-u32-at add-u32-at-2 u32-at-requires signed-requires returns)
