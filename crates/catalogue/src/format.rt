@@ -31,14 +31,6 @@ pub(crate) fn component(bytes: &[u8], i: usize, axis: usize) -> i32
     signed(words::u32_at(bytes, RECORD_SIZE * i + (4 + 4 * axis)))
 }
 
-// The same as a wide number.
-pub(crate) fn wide_component(bytes: &[u8], i: usize, axis: usize) -> i64
-    requires { ⌜ (recordSize * i + recordSize ≤ length (now bytes)) × (axis < 3) ⌝ }
-    ensures { λ r. ⌜ r ≡ componentOf (now (bytes .entry)) i axis ⌝ }
-{
-    component(bytes, i, axis) as i64
-}
-
 // The magnitude of record i, in thousandths.
 pub(crate) fn magnitude(bytes: &[u8], i: usize) -> i32
     requires { ⌜ recordSize * i + recordSize ≤ length (now bytes) ⌝ }

@@ -85,20 +85,6 @@ pub fn stars(bytes: &[u8]) -> [i32; 1536]
     numbers
 }
 
-// The same as wide numbers, for a look at all pairs of stars: they are multiplied as they are.
-pub fn wide_stars(bytes: &[u8]) -> [i64; 1536]
-    ensures { λ r. ⌜ r ≡ padded (starsOf (now (bytes .entry))) ⌝ }
-{
-    let count = 3 * stars_in(bytes);
-    let mut numbers = [0i64; 1536];
-    let mut k = 0;
-    while k < count {
-        numbers[k] = format::wide_component(bytes, k / 3, k % 3);
-        k += 1;
-    }
-    numbers
-}
-
 // The identity of record i, and 0 where there is no such record.
 pub fn identity(bytes: &[u8], i: usize) -> u32
     ensures { λ r. ⌜ r ≡ identityFor (now (bytes .entry)) i ⌝ }

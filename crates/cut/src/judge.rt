@@ -47,7 +47,7 @@ fn magnitudes(bytes: &[u8], limit: i32) -> [u8; 512]
 }
 
 // Whether star b, which has this mark, is within the limit and close to a star.
-fn meets(stars: &[i64], closeness: i64, star: Vec3, b: usize, mark: u8) -> bool
+fn meets(stars: &[i32], closeness: i64, star: Vec3, b: usize, mark: u8) -> bool
     requires { ⌜ Listed 512 (now stars) ⌝ }
     requires { ⌜ Within3 1000000000 star ⌝ }
     requires { ⌜ b < triples (now stars) ⌝ }
@@ -56,11 +56,11 @@ fn meets(stars: &[i64], closeness: i64, star: Vec3, b: usize, mark: u8) -> bool
     if mark == FAINT {
         return false;
     }
-    closeness <= vectors::dot(star, vectors::wide::triple_at(stars, b))
+    closeness <= vectors::dot(star, vectors::triple_at(stars, b))
 }
 
 // Looks at star a with each star before it: where two within the limit are close, both are marked.
-fn crowd(stars: &[i64], closeness: i64, a: usize, marks: &mut [u8])
+fn crowd(stars: &[i32], closeness: i64, a: usize, marks: &mut [u8])
     requires { ⌜ Listed 512 (now stars) ⌝ }
     requires { ⌜ (a < triples (now stars)) × (triples (now stars) ≤ length (now marks)) ⌝ }
     ensures { λ r. ⌜ ((bright : ℕ → Bool) → Judged bright (now (stars .entry)) closeness a (now (marks .entry)) → Judged bright (now (stars .entry)) closeness (a + 1) (now (marks .exit))) ⌝ }
@@ -68,7 +68,7 @@ fn crowd(stars: &[i64], closeness: i64, a: usize, marks: &mut [u8])
     if marks[a] == FAINT {
         return;
     }
-    let star = vectors::wide::triple_at(stars, a);
+    let star = vectors::triple_at(stars, a);
     let mut own: u8 = KEPT;
     let mut b: usize = 0;
     while b < a {
@@ -82,7 +82,7 @@ fn crowd(stars: &[i64], closeness: i64, a: usize, marks: &mut [u8])
 }
 
 // Looks at every pair of stars.
-fn crowd_all(stars: &[i64], closeness: i64, marks: &mut [u8])
+fn crowd_all(stars: &[i32], closeness: i64, marks: &mut [u8])
     requires { ⌜ Listed 512 (now stars) ⌝ }
     requires { ⌜ triples (now stars) ≤ length (now marks) ⌝ }
     ensures { λ r. ⌜ AllLooked (now (stars .entry)) closeness (now (marks .entry)) (now (marks .exit)) ⌝ }
@@ -101,7 +101,7 @@ pub(crate) fn judge(bytes: &[u8], limit: i32, closeness: i64) -> [u8; 512]
     ensures { λ r. ⌜ Settled (now (bytes .entry)) limit closeness r ⌝ }
 {
     let mut marks = magnitudes(bytes, limit);
-    let numbers = catalogue::wide_stars(bytes);
+    let numbers = catalogue::stars(bytes);
     let end = 3 * catalogue::records(bytes);
     crowd_all(&numbers[..end], closeness, &mut marks);
     marks

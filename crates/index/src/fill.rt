@@ -11,7 +11,7 @@ ghost use Rattle.index.specs.Grown.{Grown};
 ghost use Rattle.index.specs.Index.{entryOf, rowOf, pairsOf};
 
 // How many pairs of star b with a star before it have a record.
-fn count_row(stars: &[i64], floor: u64, b: usize) -> usize
+fn count_row(stars: &[i32], floor: u64, b: usize) -> usize
     requires { ⌜ Listed 512 (now stars) ⌝ }
     requires { ⌜ b < triples (now stars) ⌝ }
     ensures { λ r. ⌜ r ≡ length (rowOf (now (stars .entry)) floor b) ⌝ }
@@ -28,7 +28,7 @@ fn count_row(stars: &[i64], floor: u64, b: usize) -> usize
 }
 
 // How many pairs have a record.
-pub(crate) fn count(stars: &[i64], floor: u64) -> usize
+pub(crate) fn count(stars: &[i32], floor: u64) -> usize
     requires { ⌜ Listed 512 (now stars) ⌝ }
     ensures { λ r. ⌜ (r ≡ length (pairsOf (now (stars .entry)) floor (triples (now (stars .entry))))) × (r ≤ 262144) ⌝ }
 {
@@ -43,7 +43,7 @@ pub(crate) fn count(stars: &[i64], floor: u64) -> usize
 }
 
 // Writes the record of one pair, if it has one, at place `at`. The next free place.
-fn write_pair(stars: &[i64], floor: u64, a: usize, b: usize, room: &mut [u8], at: usize) -> usize
+fn write_pair(stars: &[i32], floor: u64, a: usize, b: usize, room: &mut [u8], at: usize) -> usize
     requires { ⌜ Listed 512 (now stars) ⌝ }
     requires { ⌜ (a < b) × (b < triples (now stars)) ⌝ }
     requires { ⌜ 12 * (at + length (entryOf (now stars) floor b a)) ≤ length (now room) ⌝ }
@@ -59,7 +59,7 @@ fn write_pair(stars: &[i64], floor: u64, a: usize, b: usize, room: &mut [u8], at
 }
 
 // Writes the records of star b with each star before it.
-fn write_row(stars: &[i64], floor: u64, b: usize, room: &mut [u8], at: usize) -> usize
+fn write_row(stars: &[i32], floor: u64, b: usize, room: &mut [u8], at: usize) -> usize
     requires { ⌜ Listed 512 (now stars) ⌝ }
     requires { ⌜ b < triples (now stars) ⌝ }
     requires { ⌜ 12 * (at + length (rowOf (now stars) floor b)) ≤ length (now room) ⌝ }
@@ -76,7 +76,7 @@ fn write_row(stars: &[i64], floor: u64, b: usize, room: &mut [u8], at: usize) ->
 }
 
 // Writes the records of all pairs at the front of the room.
-pub(crate) fn write(stars: &[i64], floor: u64, room: &mut [u8]) -> usize
+pub(crate) fn write(stars: &[i32], floor: u64, room: &mut [u8]) -> usize
     requires { ⌜ Listed 512 (now stars) ⌝ }
     requires { ⌜ 12 * length (pairsOf (now stars) floor (triples (now stars))) ≤ length (now room) ⌝ }
     ensures { λ r. ⌜ r ≡ length (pairsOf (now (stars .entry)) floor (triples (now (stars .entry)))) ⌝ }

@@ -17,7 +17,7 @@ pub fn raise(p: i64) -> u64
 }
 
 // The same of a dot product. It is small enough to lose its sign half the way up, so no test is needed.
-pub fn raise_product(p: i64) -> u64
+fn raise_product(p: i64) -> u64
     requires { ⌜ Within 3000000000000000000 p ⌝ }
     ensures { λ r. ⌜ r ≡ raised p ⌝ }
 {
@@ -33,10 +33,10 @@ pub fn ends(a: usize, b: usize) -> u32
 }
 
 // The dot product of a pair, moved up by 2^63.
-pub fn product(stars: &[i64], a: usize, b: usize) -> u64
+pub fn product(stars: &[i32], a: usize, b: usize) -> u64
     requires { ⌜ Listed 512 (now stars) ⌝ }
     requires { ⌜ (a < triples (now stars)) × (b < triples (now stars)) ⌝ }
     ensures { λ r. ⌜ r ≡ raised (pairDot (now (stars .entry)) a b) ⌝ }
 {
-    raise_product(vectors::wide::pair_dot(stars, a, b))
+    raise_product(vectors::pair_dot(stars, a, b))
 }

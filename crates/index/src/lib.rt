@@ -23,7 +23,7 @@ pub enum Built {
 }
 
 // How many records the index has.
-pub fn count(stars: &[i64], floor: i64) -> usize
+pub fn count(stars: &[i32], floor: i64) -> usize
     requires { ⌜ Listed 512 (now stars) ⌝ }
     ensures { λ r. ⌜ (r ≡ length (keysOf (now (stars .entry)) floor)) × (r ≤ 262144) ⌝ }
 {
@@ -31,7 +31,7 @@ pub fn count(stars: &[i64], floor: i64) -> usize
 }
 
 // Writes the index at the front of the room, which is long enough. How many records it has.
-pub fn write(stars: &[i64], floor: i64, room: &mut [u8]) -> usize
+pub fn write(stars: &[i32], floor: i64, room: &mut [u8]) -> usize
     requires { ⌜ Listed 512 (now stars) ⌝ }
     requires { ⌜ 12 * length (keysOf (now stars) floor) ≤ length (now room) ⌝ }
     ensures { λ r. ⌜ r ≡ length (keysOf (now (stars .entry)) floor) ⌝ }
@@ -44,7 +44,7 @@ pub fn write(stars: &[i64], floor: i64, room: &mut [u8]) -> usize
 }
 
 // The index of decoded stars, or refusal 16 where the room is too short.
-fn build_from(stars: &[i64], floor: i64, room: &mut [u8]) -> Built
+fn build_from(stars: &[i32], floor: i64, room: &mut [u8]) -> Built
     requires { ⌜ Listed 512 (now stars) ⌝ }
     ensures { λ r. ⌜ r ≡ builtFrom (now (stars .entry)) floor (length (now (room .entry))) ⌝ }
     ensures { λ r. ⌜ now (room .exit) ≡ roomFrom (now (stars .entry)) floor (now (room .entry)) ⌝ }
@@ -70,7 +70,7 @@ pub fn build(catalogue: &[u8], floor: i64, room: &mut [u8]) -> Built
     match checked {
         Checked::Refused(r) => Built::Refused(r),
         Checked::Records(n) => {
-            let numbers = catalogue::wide_stars(catalogue);
+            let numbers = catalogue::stars(catalogue);
             let end = 3 * n;
             build_from(&numbers[..end], floor, room)
         }
@@ -78,7 +78,7 @@ pub fn build(catalogue: &[u8], floor: i64, room: &mut [u8]) -> Built
 }
 
 // Whether the bytes handed in are exactly the index of these stars for this floor: what refusal 17 is decided by.
-pub fn matches(stars: &[i64], floor: i64, index: &[u8]) -> bool
+pub fn matches(stars: &[i32], floor: i64, index: &[u8]) -> bool
     requires { ⌜ Listed 512 (now stars) ⌝ }
     ensures { λ r. ⌜ r ≡ isIndex (now (stars .entry)) floor (now (index .entry)) ⌝ }
 {

@@ -11,7 +11,7 @@ ghost use Rattle.index.specs.Index.{pairsOf};
 ghost use Rattle.index.specs.Check.{Says, PairOk, Follows};
 
 // Whether a record's numbers are those of a pair, and its dot product the pair's.
-fn pair_ok(stars: &[i64], floor: u64, high: u64, low: u32) -> bool
+fn pair_ok(stars: &[i32], floor: u64, high: u64, low: u32) -> bool
     requires { ⌜ Listed 512 (now stars) ⌝ }
     ensures { λ r. ⌜ Says r (PairOk (now (stars .entry)) floor high low) ⌝ }
 {
@@ -34,7 +34,7 @@ fn pair_ok(stars: &[i64], floor: u64, high: u64, low: u32) -> bool
 
 // Whether a record keeps its rule behind one whose key has the two parts that come first.
 fn record_ok(
-    stars: &[i64],
+    stars: &[i32],
     floor: u64,
     before_high: u64,
     before_low: u32,
@@ -54,7 +54,7 @@ fn record_ok(
 }
 
 // Whether the bytes are the records of all pairs, in order.
-pub(crate) fn is_index(stars: &[i64], floor: u64, index: &[u8]) -> bool
+pub(crate) fn is_index(stars: &[i32], floor: u64, index: &[u8]) -> bool
     requires { ⌜ Listed 512 (now stars) ⌝ }
     ensures { λ r. ⌜ Says r (now (index .entry) ≡ encoded (sorted (pairsOf (now (stars .entry)) floor (triples (now (stars .entry)))))) ⌝ }
 {

@@ -15,7 +15,7 @@ ghost use Rattle.index_ranking.specs.Stars.{outcomeFrom, roomFrom};
 // The ranking of decoded stars with their index, whose floor is moved up by 2^63.
 fn write_ranking(
     directions: &[i32],
-    stars: &[i64],
+    stars: &[i32],
     tolerance: u64,
     index: &[u8],
     floor: u64,
@@ -36,7 +36,7 @@ fn write_ranking(
 // The ranking of decoded stars, or the lowest of 17, 8, 9 and 10 in this order.
 fn rank_from(
     directions: &[i32],
-    stars: &[i64],
+    stars: &[i32],
     index: &[u8],
     floor: i64,
     tolerance: u64,
@@ -78,7 +78,7 @@ pub fn rank(
     match checked {
         Checked::Refused(r) => Outcome::Refused(r),
         Checked::Records(n) => {
-            let numbers = catalogue::wide_stars(catalogue);
+            let numbers = catalogue::stars(catalogue);
             let end = 3 * n;
             rank_from(directions, &numbers[..end], index, floor, tolerance, room)
         }

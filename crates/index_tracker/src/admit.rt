@@ -7,7 +7,7 @@ ghost use Rattle.vectors.specs.Triples.{Listed};
 ghost use Rattle.index_tracker.specs.Chain.{indexRows, starsRows};
 
 // 17, of decoded stars.
-fn index_outcome(stars: &[i64], index: &[u8], floor: i64) -> Outcome
+fn index_outcome(stars: &[i32], index: &[u8], floor: i64) -> Outcome
     requires { ⌜ Listed 512 (now stars) ⌝ }
     ensures { λ r. ⌜ r ≡ lowest (indexRows (now (stars .entry)) (now (index .entry)) floor) ⌝ }
 {
@@ -25,7 +25,7 @@ pub(crate) fn stars_outcome(bytes: &[u8], index: &[u8], floor: i64) -> Outcome
     match checked {
         Checked::Refused(r) => Outcome::Refused(r),
         Checked::Records(n) => {
-            let numbers = catalogue::wide_stars(bytes);
+            let numbers = catalogue::stars(bytes);
             let end = 3 * n;
             index_outcome(&numbers[..end], index, floor)
         }

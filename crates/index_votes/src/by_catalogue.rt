@@ -10,7 +10,7 @@ ghost use Rattle.index_votes.specs.Span.{inSpan, meets, rowVotes, allVot
 
 // The votes of one pair of stars, if its dot product lies in the span.
 fn vote_pair(
-    stars: &[i64],
+    stars: &[i32],
     lower: u64,
     upper: u64,
     a: usize,
@@ -36,7 +36,7 @@ fn vote_pair(
 }
 
 // The votes of the pairs of star b with each star before it.
-fn vote_row(stars: &[i64], lower: u64, upper: u64, b: usize, i: usize, j: usize, votes: &mut [u32])
+fn vote_row(stars: &[i32], lower: u64, upper: u64, b: usize, i: usize, j: usize, votes: &mut [u32])
     requires { ⌜ Listed 512 (now stars) ⌝ }
     requires { ⌜ b < triples (now stars) ⌝ }
     requires { ⌜ (i < 8) × (j < 8) ⌝ }
@@ -51,7 +51,7 @@ fn vote_row(stars: &[i64], lower: u64, upper: u64, b: usize, i: usize, j: usize,
 }
 
 // The votes of all pairs of stars in the span.
-pub(crate) fn vote_all(stars: &[i64], lower: u64, upper: u64, i: usize, j: usize, votes: &mut [u32])
+pub(crate) fn vote_all(stars: &[i32], lower: u64, upper: u64, i: usize, j: usize, votes: &mut [u32])
     requires { ⌜ Listed 512 (now stars) ⌝ }
     requires { ⌜ (i < 8) × (j < 8) ⌝ }
     requires { ⌜ Counters 3000000000 (now votes) ⌝ }

@@ -8,24 +8,14 @@ ghost use mathlib.Core.Path.{_≡_};
 ghost use Prim.Native.Nat.{_<_, _≤_};
 ghost use Rattle.vectors.specs.Triples.{triples, Listed, pairDot};
 ghost use Rattle.votes.specs.Counters.{Counters, Grown, Counted};
-ghost use Rattle.index.specs.Raised.{raised};
 ghost use Rattle.index.specs.Index.{bytesFrom};
 ghost use Rattle.index_votes.specs.Both.{both};
 ghost use Rattle.index_votes.specs.Pair.{plainVotes, rowAdds};
 
-// The dot product of the directions j and i, moved up by 2^63.
-fn product(directions: &[i32], j: usize, i: usize) -> u64
-    requires { ⌜ Listed 8 (now directions) ⌝ }
-    requires { ⌜ (j < triples (now directions)) × (i < triples (now directions)) ⌝ }
-    ensures { λ r. ⌜ r ≡ raised (pairDot (now (directions .entry)) j i) ⌝ }
-{
-    index::key::raise_product(vectors::pair_dot(directions, j, i))
-}
-
 // The votes of the directions j and i. A pair whose dot product less the tolerance lies below the floor is voted by the full catalogue.
 fn vote_pair(
     directions: &[i32],
-    stars: &[i64],
+    stars: &[i32],
     tolerance: u64,
     j: usize,
     i: usize,
@@ -41,7 +31,7 @@ fn vote_pair(
     requires { ⌜ Counters 3000000000 (now votes) ⌝ }
     ensures { λ r. ⌜ Grown (both j i (plainVotes (now (stars .entry)) (pairDot (now (directions .entry)) j i) tolerance)) (now (votes .entry)) (now (votes .exit)) ⌝ }
 {
-    let product = product(directions, j, i);
+    let product = index::key::product(directions, j, i);
     let lower = product - tolerance;
     let upper = product + tolerance;
     if lower < floor {
@@ -54,7 +44,7 @@ fn vote_pair(
 // The votes of direction j with each direction before it.
 fn vote_row(
     directions: &[i32],
-    stars: &[i64],
+    stars: &[i32],
     tolerance: u64,
     j: usize,
     index: &[u8],
@@ -79,7 +69,7 @@ fn vote_row(
 // Counts the votes of each star for each direction, in counters that are 0 before, with the index of the stars for a floor.
 pub fn count_votes(
     directions: &[i32],
-    stars: &[i64],
+    stars: &[i32],
     tolerance: u64,
     index: &[u8],
     floor: u64,

@@ -41,7 +41,7 @@ pub fn write_rows(votes: &[u32], count: usize, words: usize, room: &mut [u16])
 }
 
 // The ranking of decoded stars.
-fn write_ranking(directions: &[i32], stars: &[i64], tolerance: u64, room: &mut [u16])
+fn write_ranking(directions: &[i32], stars: &[i32], tolerance: u64, room: &mut [u16])
     requires { ⌜ Listed 8 (now directions) ⌝ }
     requires { ⌜ Listed 512 (now stars) ⌝ }
     requires { ⌜ triples (now directions) * triples (now stars) ≤ length (now room) ⌝ }
@@ -62,7 +62,7 @@ pub fn rank(directions: &[i32], catalogue: &[u8], tolerance: u64, room: &mut [u1
     match outcome {
         Outcome::Refused(r) => Outcome::Refused(r),
         Outcome::Accepted => {
-            let numbers = catalogue::wide_stars(catalogue);
+            let numbers = catalogue::stars(catalogue);
             let end = 3 * catalogue::records(catalogue);
             write_ranking(directions, &numbers[..end], tolerance, room);
             Outcome::Accepted

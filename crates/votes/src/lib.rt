@@ -96,7 +96,7 @@ fn vote_star(
     near: &[u8],
     products: &[i64],
     count: usize,
-    stars: &[i64],
+    stars: &[i32],
     tolerance: u64,
     a: usize,
     votes: &mut [u32],
@@ -110,10 +110,10 @@ fn vote_star(
     requires { ⌜ Counters 1000000000 (now votes) ⌝ }
     ensures { λ r. ⌜ Grown (starGiven (productAt (now (products .entry))) tolerance count (now (stars .entry)) a) (now (votes .entry)) (now (votes .exit)) ⌝ }
 {
-    let star = vectors::wide::triple_at(stars, a);
+    let star = vectors::triple_at(stars, a);
     let mut b: usize = 0;
     while b < a {
-        let p = vectors::dot(star, vectors::wide::triple_at(stars, b));
+        let p = vectors::dot(star, vectors::triple_at(stars, b));
         if near::mark_at(near, p) != 0 {
             vote_pair(products, count, tolerance, p, a, b, votes);
         }
@@ -122,7 +122,7 @@ fn vote_star(
 }
 
 // Counts the votes of each star for each direction, in counters that are 0 before.
-pub fn count_votes(directions: &[i32], stars: &[i64], tolerance: u64, votes: &mut [u32])
+pub fn count_votes(directions: &[i32], stars: &[i32], tolerance: u64, votes: &mut [u32])
     requires { ⌜ Listed 8 (now directions) ⌝ }
     requires { ⌜ Listed 512 (now stars) ⌝ }
     requires { ⌜ Counters 0 (now votes) ⌝ }

@@ -8,7 +8,7 @@ use second::answer::Numbers;
 use second::call::{Call, Entry, Lent, Outcome, ENTRIES};
 use second::dense;
 use second::generate::{any_call, lend_index, Scene};
-use second::hard::{unrelated, REACHES};
+use second::hard::{true_groups, unrelated, REACHES};
 use second::random::Random;
 use second::search::Effort;
 use second::{linked, recorded, typed};
@@ -100,14 +100,15 @@ fn run_with_little_stack(random: &Random) {
     };
     let mut calls: Vec<Call> =
         ENTRIES.iter().flat_map(|&entry| (0..8).map(move |_| any_call(random, entry))).collect();
-    // The largest chain, the same with the index of all its pairs, that index to be built, and a hard search.
+    // The largest chain, the same with the index of all its pairs, that index to be built, a hard search, and rivals.
     let chain = largest.call(random);
     let mut by_index = Call { entry: Entry::ChainByIndex, ..chain.clone() };
     lend_index(&mut by_index, i64::MIN);
     let mut index = Call { entry: Entry::Index, ..by_index.clone() };
     index.bytes = index.index.clone();
     let hard = unrelated(random, 5, 100_000_000_000_000, REACHES[0]);
-    calls.extend([chain, by_index, index, hard]);
+    let rival = Call { entry: Entry::Rival, ..true_groups(random, 8, 100_000_000_000, 2_000) };
+    calls.extend([chain, by_index, index, hard, rival]);
     for call in calls {
         let mut lent = call.lend();
         thread::scope(|scope| {

@@ -39,14 +39,14 @@ valid : (c : tie.After-known-told2) → Valid (start c .args .catalogue .now) ×
 valid c = checked-valid _ _ (sym (c .before .before .before .check .ensures .0) ∙ c .before .checked2 .given .1)
 
 -- the slice that is handed on
-fits : (c : tie.After-wide-stars) → 3 * c .before .before .checked2 .given .0 .0 ≤ length (c .wide-stars .result)
-fits c = lent-within _ _ _ (c .wide-stars .ensures) (valid (c .before) .1) (valid (c .before) .0)
+fits : (c : tie.After-stars) → 3 * c .before .before .checked2 .given .0 .0 ≤ length (c .stars .result)
+fits c = lent-within _ _ _ (c .stars .ensures) (valid (c .before) .1) (valid (c .before) .0)
 
-lent : (c : tie.After-wide-stars) → take (3 * c .before .before .checked2 .given .0 .0) (c .wide-stars .result) ≡ starsOf (start (c .before) .args .catalogue .now)
-lent c = lent-stars _ _ _ (c .wide-stars .ensures) (valid (c .before) .1) (valid (c .before) .0)
+lent : (c : tie.After-stars) → take (3 * c .before .before .checked2 .given .0 .0) (c .stars .result) ≡ starsOf (start (c .before) .args .catalogue .now)
+lent c = lent-stars _ _ _ (c .stars .ensures) (valid (c .before) .1) (valid (c .before) .0)
 
-wide-stars-requires : tie.Need-wide-stars-requires
-wide-stars-requires c κs = search needs
+stars-requires : tie.Need-stars-requires
+stars-requires c κs = search needs
 
 mul-end : tie.Need-mul-end
 mul-end c = omega (arith, valid (c .before) .1, valid (c .before) .0 .size .most)
@@ -94,7 +94,7 @@ build-spec =
     check-requires
     enum-known-checked
     enum-known-checked-2
-    wide-stars-requires
+    stars-requires
     mul-end
     array-share-prefix-numbers
     slice-aggregate-build-from

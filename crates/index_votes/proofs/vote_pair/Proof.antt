@@ -16,7 +16,7 @@ use Rattle.index_votes.proofs.vote_pair.Statement.{statement}
 use Rattle.index_votes.proofs.vote_pair.Tie as tie
 
 product-requires : tie.Need-product-requires
-product-requires c κs = let s = c .before .before in (s .pre .0, s .pre .1 .1 .0)
+product-requires c κs = let s = c .before .before in (more-listed (s .pre .0), s .pre .1 .1 .0)
 
 -- the span's ends
 around : (c : tie.After-product) → (6223372036854775808 ≤ c .product .result) × (c .product .result ≤ 12223372036854775808)

@@ -49,8 +49,8 @@ enum-known-outcome c = search needs
 enum-told : tie.Need-enum-told
 enum-told c = search needs
 
-wide-stars-requires : tie.Need-wide-stars-requires
-wide-stars-requires c κs = search needs
+stars-requires : tie.Need-stars-requires
+stars-requires c κs = search needs
 
 records-requires : tie.Need-records-requires
 records-requires c κs = search needs
@@ -59,15 +59,15 @@ mul-end : tie.Need-mul-end
 mul-end c = search needs
 
 array-share-prefix-numbers : tie.Need-array-share-prefix-numbers
-array-share-prefix-numbers c = lent-within _ _ _ (c .before .wide-stars .ensures) (c .records .ensures) (sound (c .before .before) .catalogue)
+array-share-prefix-numbers c = lent-within _ _ _ (c .before .stars .ensures) (c .records .ensures) (sound (c .before .before) .catalogue)
 
 -- the slice that is handed on
-lent : (c : tie.After-numbers) → take (3 * c .before .records .result) (c .before .before .wide-stars .result) ≡ starsOf (start (c .before .before .before) .args .catalogue .now)
-lent c = lent-stars _ _ _ (c .before .before .wide-stars .ensures) (c .before .records .ensures) (sound (c .before .before .before) .catalogue)
+lent : (c : tie.After-numbers) → take (3 * c .before .records .result) (c .before .before .stars .result) ≡ starsOf (start (c .before .before .before) .args .catalogue .now)
+lent c = lent-stars _ _ _ (c .before .before .stars .ensures) (c .before .records .ensures) (sound (c .before .before .before) .catalogue)
 
 slice-aggregate-write-ranking : tie.Need-slice-aggregate-write-ranking
 slice-aggregate-write-ranking c =
-    sym (length-take-le _ _ (lent-within _ _ _ (c .before .before .wide-stars .ensures) (c .before .records .ensures) (sound (c .before .before .before) .catalogue)))
+    sym (length-take-le _ _ (lent-within _ _ _ (c .before .before .stars .ensures) (c .before .records .ensures) (sound (c .before .before .before) .catalogue)))
 
 -- directions x stars words, as the stars are counted
 words : (c : tie.After-enum-told) → let a = start c .args in triples (a .directions .now) * triples (starsOf (a .catalogue .now)) ≡ triples (a .directions .now) * recordsIn (a .catalogue .now)
@@ -115,7 +115,7 @@ rank-spec =
     lowest-requires
     enum-known-outcome
     enum-told
-    wide-stars-requires
+    stars-requires
     records-requires
     mul-end
     array-share-prefix-numbers

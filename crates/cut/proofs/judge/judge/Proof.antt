@@ -24,14 +24,14 @@ abbrev start : tie.After-records → tie.Start
 start c = c .before .before .before .before
 
 -- the part of the array that is handed on is the stars
-lent : (c : tie.After-records) → take (3 * c .records .result) (c .before .wide-stars .result) ≡ starsOf (start c .args .bytes .now)
-lent c = lent-stars _ _ _ (c .before .wide-stars .ensures) (c .records .ensures) (start c .pre)
+lent : (c : tie.After-records) → take (3 * c .records .result) (c .before .stars .result) ≡ starsOf (start c .args .bytes .now)
+lent c = lent-stars _ _ _ (c .before .stars .ensures) (c .records .ensures) (start c .pre)
 
 magnitudes-requires : tie.Need-magnitudes-requires
 magnitudes-requires c κs = search needs
 
-wide-stars-requires : tie.Need-wide-stars-requires
-wide-stars-requires c κs = search needs
+stars-requires : tie.Need-stars-requires
+stars-requires c κs = search needs
 
 records-requires : tie.Need-records-requires
 records-requires c κs = search needs
@@ -45,7 +45,7 @@ array-share-prefix-numbers c = search needs
 slice-aggregate-crowd-all : tie.Need-slice-aggregate-crowd-all
 slice-aggregate-crowd-all c =
     let r = c .before in
-    sym (length-take-le _ _ (lent-within _ _ _ (r .before .wide-stars .ensures) (r .records .ensures) (start r .pre)))
+    sym (length-take-le _ _ (lent-within _ _ _ (r .before .stars .ensures) (r .records .ensures) (start r .pre)))
 
 slice-aggregate-crowd-all-2 : tie.Need-slice-aggregate-crowd-all-2
 slice-aggregate-crowd-all-2 c = search needs
@@ -55,7 +55,7 @@ crowd-all-requires c κs =
     let r = c .before .before in
     let s = start r in
     let e = lent r in
-    let k : triples (take (3 * r .records .result) (r .before .wide-stars .result)) ≤ length (r .before .before .magnitudes .result) =
+    let k : triples (take (3 * r .records .result) (r .before .stars .result)) ≤ length (r .before .before .magnitudes .result) =
     omega (arith, ap length e, star-count (s .args .bytes .now) (s .pre), s .pre .size .most) in
     (subst (Listed 512) (sym e) (valid-listed (s .args .bytes .now) (s .pre)), k)
 
@@ -78,7 +78,7 @@ judge-spec =
     tie.close
     (tie.spec
     magnitudes-requires
-    wide-stars-requires
+    stars-requires
     records-requires
     mul-end
     array-share-prefix-numbers
