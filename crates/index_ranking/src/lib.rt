@@ -8,7 +8,8 @@ ghost use lib.ListN.{length, drop};
 ghost use Rattle.refusal.specs.Answer.{answerOf};
 ghost use Rattle.vectors.specs.Triples.{triples, Listed};
 ghost use Rattle.ranking.specs.Ranking.{rankingOf};
-ghost use Rattle.index.specs.Index.{bytesFrom};
+ghost use Rattle.catalogue.specs.Stars.{starsOf};
+ghost use Rattle.index.specs.Index.{bytesFrom, indexOf};
 ghost use Rattle.index_ranking.specs.Call.{call, outcomeOf, roomAfter, answerFor};
 ghost use Rattle.index_ranking.specs.Stars.{outcomeFrom, roomFrom};
 
@@ -33,6 +34,32 @@ fn write_ranking(
     ranking::write_rows(&votes, directions.len() / 3, stars.len() / 3, room);
 }
 
+// The ranking of decoded stars with their own index, or the lowest of 8, 9 and 10.
+fn rank_right(
+    directions: &[i32],
+    stars: &[i32],
+    index: &[u8],
+    floor: i64,
+    tolerance: u64,
+    room: &mut [u16],
+) -> Outcome
+    requires { ⌜ Listed 512 (now stars) ⌝ }
+    requires { ⌜ now index ≡ indexOf (now stars) floor ⌝ }
+    ensures { λ r. ⌜ r ≡ outcomeFrom (now (directions .entry)) (now (stars .entry)) (now (index .entry)) floor tolerance (length (now (room .entry))) ⌝ }
+    ensures { λ r. ⌜ now (room .exit) ≡ roomFrom (now (directions .entry)) (now (stars .entry)) (now (index .entry)) floor tolerance (now (room .entry)) ⌝ }
+{
+    let total = stars.len() / 3;
+    let outcome = ranking::refused::beside(directions, total, tolerance, room.len());
+    match outcome {
+        Outcome::Refused(r) => Outcome::Refused(r),
+        Outcome::Accepted => {
+            let raised = index::key::raise(floor);
+            write_ranking(directions, stars, tolerance, index, raised, room);
+            Outcome::Accepted
+        }
+    }
+}
+
 // The ranking of decoded stars, or the lowest of 17, 8, 9 and 10 in this order.
 fn rank_from(
     directions: &[i32],
@@ -49,16 +76,7 @@ fn rank_from(
     if !index::matches(stars, floor, index) {
         return refusal::plain(refusal::INDEX);
     }
-    let total = stars.len() / 3;
-    let outcome = ranking::refused::beside(directions, total, tolerance, room.len());
-    match outcome {
-        Outcome::Refused(r) => Outcome::Refused(r),
-        Outcome::Accepted => {
-            let raised = index::key::raise(floor);
-            write_ranking(directions, stars, tolerance, index, raised, room);
-            Outcome::Accepted
-        }
-    }
+    rank_right(directions, stars, index, floor, tolerance, room)
 }
 
 // The ranking of a catalogue's stars for each direction, with the catalogue's index for a floor, written into the room.
@@ -81,6 +99,30 @@ pub fn rank(
             let numbers = catalogue::stars(catalogue);
             let end = 3 * n;
             rank_from(directions, &numbers[..end], index, floor, tolerance, room)
+        }
+    }
+}
+
+// The same with an index that the caller has tested for this catalogue and floor.
+pub fn rank_tested(
+    directions: &[i32],
+    catalogue: &[u8],
+    index: &[u8],
+    floor: i64,
+    tolerance: u64,
+    room: &mut [u16],
+) -> Outcome
+    requires { ⌜ now index ≡ indexOf (starsOf (now catalogue)) floor ⌝ }
+    ensures { λ r. ⌜ r ≡ outcomeOf (call (now (directions .entry)) (now (catalogue .entry)) (now (index .entry)) floor tolerance (now (room .entry))) ⌝ }
+    ensures { λ r. ⌜ now (room .exit) ≡ roomAfter (call (now (directions .entry)) (now (catalogue .entry)) (now (index .entry)) floor tolerance (now (room .entry))) ⌝ }
+{
+    let checked = catalogue::check(catalogue);
+    match checked {
+        Checked::Refused(r) => Outcome::Refused(r),
+        Checked::Records(n) => {
+            let numbers = catalogue::stars(catalogue);
+            let end = 3 * n;
+            rank_right(directions, &numbers[..end], index, floor, tolerance, room)
         }
     }
 }

@@ -9,6 +9,8 @@ use lib.ListN.{length, take}
 use lib.Seq.{length-take-le}
 use mir.Syntax.{w64}
 use mir.ValLaws.{toZ-ofZ}
+use Rattle.catalogue.specs.Stars.{starsOf}
+use Rattle.index.specs.Index.{indexOf}
 use Rattle.index_ranking.specs.Call.{call, roomAfter}
 use Rattle.index_ranking.specs.Laws.{right-room}
 use Rattle.tracker.specs.Chain.{sightsOf, rankedRoom}
@@ -33,16 +35,16 @@ front d = ap (take (3 * start d .args .report .count)) (d .directions-of .ensure
 part : (d : tie.After-directions-of) → 3 * start d .args .report .count ≡ length (take (3 * start d .args .report .count) (d .directions-of .result))
 part d = sym (length-take-le _ _ (omega (arith, array d, start d .pre .0 .few)))
 
-abbrev sighted : tie.After-rank → tie.After-directions-of
+abbrev sighted : tie.After-rank-tested → tie.After-directions-of
 sighted k = k .before .before .before
 
 -- the room after the ranking
-room-is : (k : tie.After-rank) → let s = start (sighted k) in k .rank .last .1 .1 .1 .1 .1 .0 ≡ rankedRoom (s .args .report) (s .args .bytes .now) (s .args .settings) (s .args .room .now)
+room-is : (k : tie.After-rank-tested) → let s = start (sighted k) in k .rank-tested .last .1 .1 .1 .1 .1 .0 ≡ rankedRoom (s .args .report) (s .args .bytes .now) (s .args .settings) (s .args .room .now)
 room-is k =
     let s = start (sighted k) in
     let a = s .args in
     let f = toZ-ofZ w64 (a .floor) (s .fits .floor) in
-    k .rank .ensures .1 .0
+    k .rank-tested .ensures .1
     ∙ (λ i. roomAfter (call (front (sighted k) i) (a .bytes .now) (a .index .now) (f i) (a .settings .tolerance) (a .room .now)))
     ∙ right-room (call (sightsOf (a .report) (a .bytes .now) (a .settings)) (a .bytes .now) (a .index .now) (a .floor) (a .settings .tolerance) (a .room .now)) (s .pre .1)
     ∙ laws.room-ranked _ _ _ _ (s .pre .0)
@@ -58,11 +60,13 @@ mul-end c = omega (arith, start c .pre .0 .few)
 array-share-prefix-numbers : tie.Need-array-share-prefix-numbers
 array-share-prefix-numbers c = omega (arith, array c, start c .pre .0 .few)
 
-slice-aggregate-rank : tie.Need-slice-aggregate-rank
-slice-aggregate-rank c = part (c .before)
+slice-aggregate-rank-tested : tie.Need-slice-aggregate-rank-tested
+slice-aggregate-rank-tested c = part (c .before)
 
-rank-requires : tie.Need-rank-requires
-rank-requires c κs = search needs
+rank-tested-requires : tie.Need-rank-tested-requires
+rank-tested-requires c κs =
+    let s = start (c .before .before) in
+    s .pre .1 ∙ ap (indexOf (starsOf (s .args .bytes .now))) (sym (toZ-ofZ w64 (s .args .floor) (s .fits .floor)))
 
 array-share-prefix-numbers-2 : tie.Need-array-share-prefix-numbers-2
 array-share-prefix-numbers-2 c = let d = sighted (c .before .before) in omega (arith, array d, start d .pre .0 .few)
@@ -89,8 +93,8 @@ located-spec =
     directions-of-requires
     mul-end
     array-share-prefix-numbers
-    slice-aggregate-rank
-    rank-requires
+    slice-aggregate-rank-tested
+    rank-tested-requires
     array-share-prefix-numbers-2
     slice-aggregate-identified
     identified-requires
