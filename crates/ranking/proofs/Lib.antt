@@ -1,3 +1,2 @@
 -- The laws that the proofs of `ranking` cite.
 pub mod Rows
-pub mod Levels

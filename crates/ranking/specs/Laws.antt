@@ -12,10 +12,10 @@ use lib.Seq.{getD-append-add}
 use Rattle.sorting.specs.Laws.{count, each-once, in-order, Ahead, InOrder}
 use Rattle.vectors.specs.Triples.{triples}
 use Rattle.votes.specs.Votes.{votesOf}
-use Rattle.ranking.specs.Row.{every}
+use Rattle.row.specs.Row.{every}
 use Rattle.ranking.specs.Ranking.{rowOf, rowsOf, rankingOf}
-use Rattle.ranking.specs.Places.{counted-at, ahead-at, order-once}
-use Rattle.ranking.specs.RowPlaces.{every-length, every-below}
+use Rattle.row.specs.Places.{counted-at, ahead-at, order-once}
+use Rattle.row.specs.RowPlaces.{every-length, every-below}
 
 -- words of `stars` a row: each row names each star exactly once
 pub record Ranks (directions stars : ℕ) (words : List ℕ) : Type 0 where

@@ -5,7 +5,7 @@ use lib.IntN.{ℤ}
 use Rattle.sorting.specs.Order.{ordered}
 use Rattle.vectors.specs.Triples.{triples}
 use Rattle.votes.specs.Votes.{votesOf}
-use Rattle.ranking.specs.Row.{every}
+use Rattle.row.specs.Row.{every}
 
 -- a direction's row: the star with most votes first, and the lower record number first among equal ones
 unfoldable pub rowOf : List ℤ → List ℤ → ℕ → ℕ → List ℕ

@@ -13,9 +13,9 @@ use Rattle.vectors.specs.Triples.{triples}
 use Rattle.votes.specs.Votes.{votesOf}
 use Rattle.votes.specs.Laws.{counter-within}
 use Rattle.votes.specs.Counters.{counterAt, Counted}
-use Rattle.ranking.specs.Row.{every, votesAt, rowBy}
+use Rattle.row.specs.Row.{every, votesAt, rowBy}
 use Rattle.ranking.specs.Ranking.{rowOf, rowsOf, rankingOf}
-use Rattle.ranking.specs.RowPlaces.{every-length}
+use Rattle.row.specs.RowPlaces.{every-length}
 
 -- the row of direction i: the m stars by its counters
 unfoldable pub rowAt : List ℕ → ℕ → ℕ → List ℕ

@@ -1,6 +1,5 @@
 // The ranking: one row of record numbers for each direction, by votes, in the lent room.
 pub mod refused;
-pub mod row;
 
 use refusal::Outcome;
 ghost use mathlib.Core.Path.{_≡_};

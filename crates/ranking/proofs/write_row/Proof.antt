@@ -4,7 +4,7 @@ use Prim.Native.Nat.{ℕ, _+_, _-_, _*_}
 use native.Mathlib.Omega.{arith}
 use borrow.Author.Needs.{needs}
 use lib.ListN.{length, take, drop}
-use Rattle.ranking.specs.Row.{rowBy}
+use Rattle.row.specs.Row.{rowBy}
 use Rattle.ranking.specs.Rows.{row-at}
 use Rattle.ranking.proofs.write_row.Statement.{statement}
 use Rattle.ranking.proofs.write_row.Tie as tie
