@@ -24,7 +24,7 @@ use Rattle.catalogue.specs.Valid.{Valid}
 use Rattle.flight.specs.Flight.{isKept, keptIn, recordsAt, flightOf, freed, cutOf}
 use Rattle.flight.specs.Front.{flight-length, flight-most}
 use Rattle.cut.specs.declared.Shortened.the-variants.{Refused, Kept}
-use Rattle.cut.specs.Judge.{Settled}
+use Rattle.cut_marks.specs.Judge.{Settled}
 use Rattle.cut.specs.Shifted.{marked}
 use Rattle.cut.specs.Cut.{noneKept, refusalsOf, shortenedOf, bufferAfter, shortenedFrom, bufferFrom, answerOf, answerFor}
 

@@ -1,5 +1,4 @@
 // A flight catalogue, cut out of a larger one in the same lent buffer: the stars within a limit of magnitude that no other star within it is close to.
-mod judge;
 mod shift;
 
 use catalogue::Checked;
@@ -22,7 +21,7 @@ fn cut_valid(bytes: &mut [u8], limit: i32, closeness: i64) -> Shortened
     ensures { λ r. ⌜ r ≡ shortenedFrom (now (bytes .entry)) limit closeness ⌝ }
     ensures { λ r. ⌜ now (bytes .exit) ≡ bufferFrom (now (bytes .entry)) limit closeness ⌝ }
 {
-    let marks = judge::judge(bytes, limit, closeness);
+    let marks = cut_marks::judge(bytes, limit, closeness);
     let kept = shift::forward(bytes, &marks);
     if kept == 0 {
         return Shortened::Refused(Refusal {

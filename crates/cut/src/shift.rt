@@ -1,6 +1,6 @@
 // The records that are kept, moved to the front of the buffer in one pass, and the freed room behind them.
-use crate::judge::KEPT;
 use catalogue::RECORD_SIZE;
+use cut_marks::KEPT;
 ghost use mathlib.Core.List.{[], _++_};
 ghost use mathlib.Core.Path.{_≡_};
 ghost use Prim.Native.Nat.{_+_, _*_, _-_, _<_, _≤_};

@@ -2,4 +2,3 @@
 pub mod Marks
 mod ForwardLaws
 mod PairsLaws
-mod NarrowLaws

@@ -3,8 +3,4 @@
 // known, and a mark that is not 0 says nothing: so a look may be left out where it does not pay, and the search stays exact.
 pub mod bound;
 pub mod forward;
-pub mod narrow;
 pub mod pairs;
-
-// Below this tolerance few pairs of stars agree with a pair of directions, and marks of all pairs before the first star would cost more than they save.
-const WIDE: u64 = 10000000000000;

@@ -11,7 +11,7 @@ use Rattle.catalogue.specs.Format.{recordSize}
 use Rattle.flight.specs.Flight.{keptIn, freed}
 use Rattle.flight.specs.Front.{flight-length, flight-most}
 use Rattle.cut.specs.declared.Shortened.the-variants.{Kept}
-use Rattle.cut.specs.Judge.{Settled, settled-as}
+use Rattle.cut_marks.specs.Judge.{Settled, settled-as}
 use Rattle.cut.specs.CutSteps.{marked-kept, moved, moved-is, moved-none, moved-filled, none-from, none-buffer, some-from, some-buffer}
 use Rattle.cut.proofs.cut_valid.Statement.{statement}
 use Rattle.cut.proofs.cut_valid.Tie as tie

@@ -1,0 +1,2 @@
+-- The definitions that the contracts of `narrow` cite, and their laws.
+pub mod Narrow
