@@ -23,7 +23,7 @@ use Rattle.centroid.specs.Centroid.{brightness, shiftX, shiftY, centroidOf}
 use Rattle.verdict.specs.Verdict.{edge, peakKind, kindOf, kindNumber}
 use Rattle.verdict.specs.declared.Kind.{Kind}
 use Rattle.verdict.specs.declared.Kind.the-variants.{Dark, Beaten, Edge, Lone, Measured}
-use Rattle.frame.specs.Input.{firstOver}
+use Rattle.frame_input.specs.Input.{firstOver}
 use Rattle.frame.specs.Calls.{judgementOf}
 use Rattle.frame.specs.CallsLaws.{judge-accepted}
 use Rattle.direction.specs.List.{allWithin, listOk}

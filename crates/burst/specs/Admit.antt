@@ -14,8 +14,8 @@ use Rattle.refusal.specs.Numbers as number
 use Rattle.refusal.specs.Table.{refusalOf, lowest}
 use Rattle.refusal.specs.Laws.{Silent, accepted-silent}
 use Rattle.refusal.specs.AnswerLaws.{answerBy, answered-by}
-use Rattle.frame.specs.Input.{sizeOut}
-use Rattle.frame.specs.InputLaws.{size-says}
+use Rattle.frame_input.specs.Input.{sizeOut}
+use Rattle.frame_input.specs.InputLaws.{size-says}
 use Rattle.burst_records.specs.Record.{recordSize}
 use Rattle.burst.specs.declared.Burst.the-variants.{Refused, Records}
 use Rattle.burst.specs.Burst.{Call, mostFrames, lengthOut, burstRows, framesIn, refusalsOf, burstOf, answerOf, answerFor}

@@ -8,7 +8,7 @@ use lib.ListN.{length, take, drop}
 use Rattle.refusal.specs.Numbers as number
 use Rattle.refusal.specs.Table.{Row, row, lowest, answered}
 use Rattle.refusal.specs.Answer.{Answer, refusedWith, acceptedWith}
-use Rattle.frame.specs.Input.{sizeOut}
+use Rattle.frame_input.specs.Input.{sizeOut}
 use Rattle.burst_records.specs.Record.{recordSize, recordOf, encoded}
 use Rattle.tracker.specs.declared.Settings.{Settings}
 use Rattle.tracker.specs.declared.Tracked.{Tracked}

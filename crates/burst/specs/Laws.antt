@@ -21,7 +21,7 @@ use Rattle.numbers.specs.Within.{Within, within-fits}
 use Rattle.attitude.specs.declared.Matrix.{Matrix}
 use Rattle.attitude.specs.Attitude.{entriesOf}
 use Rattle.attitude.specs.Entries.{MatrixWithin}
-use Rattle.frame.specs.Input.{sizeOut}
+use Rattle.frame_input.specs.Input.{sizeOut}
 use Rattle.burst_records.specs.Record.{recordSize, recordOf, encoded, decoded, AllSigned, Holds}
 use Rattle.burst_records.specs.Laws.{decoded-encoded}
 use Rattle.tracker.specs.declared.Settings.{Settings}

@@ -25,7 +25,7 @@ pub enum Burst {
 fn outcome(width: usize, height: usize, samples: usize, records: usize) -> Outcome
     ensures { λ r. ⌜ r ≡ lowest (burstRows width height samples records) ⌝ }
 {
-    if !frame::size_ok(width, height) {
+    if !frame_input::size_ok(width, height) {
         return refusal::plain(refusal::SIZE);
     }
     let size = width * height;

@@ -9,7 +9,7 @@ use Rattle.verdict.specs.Verdict.{verdictOf, kindNumber}
 use Rattle.verdict.specs.declared.Kind.{Kind}
 use Rattle.verdict.specs.declared.Kind.the-variants.{Dark, Beaten, Edge, Lone, Measured}
 use Rattle.verdict.specs.declared.Verdict.{Verdict}
-use Rattle.frame.specs.Input.{sizeOut, lengthOut, thresholdOut, firstOver, sampleOut, pixelOut, frameRows, pixelRows}
+use Rattle.frame_input.specs.Input.{sizeOut, lengthOut, thresholdOut, firstOver, sampleOut, pixelOut, frameRows, pixelRows}
 use Rattle.frame.specs.Stars.{reportOf, nothing}
 use Rattle.frame.specs.declared.Judgement.{Judgement}
 use Rattle.frame.specs.declared.Judgement.the-variants.{Refused, Judged}

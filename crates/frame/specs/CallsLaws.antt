@@ -23,7 +23,7 @@ use Rattle.verdict.specs.Verdict.{verdictOf}
 use Rattle.verdict.specs.Laws.{measured-range}
 use Rattle.verdict.specs.declared.Kind.{Kind}
 use Rattle.verdict.specs.declared.Kind.the-variants.{Dark, Beaten, Edge, Lone, Measured}
-use Rattle.frame.specs.Input.{frameRows, pixelRows}
+use Rattle.frame_input.specs.Input.{frameRows, pixelRows}
 use Rattle.frame.specs.Stars.{bright, nought, isMeasured, numberOf, kindAt, starAt, measuredPixels, measuredOf, reportOf, nothing}
 use Rattle.frame.specs.StarsLaws.{star-is}
 use Rattle.frame.specs.Calls.{judgementOf, listingOf, answerOf, answerFor}

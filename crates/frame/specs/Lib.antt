@@ -1,6 +1,4 @@
 -- The definitions that the contracts of `frame` cite, and their laws.
-pub mod Input
-pub mod InputLaws
 pub mod Stars
 pub mod StarsLaws
 pub mod Calls

@@ -6,11 +6,7 @@ use refusal::Outcome;
 use refusal::Refusal;
 use verdict::Verdict;
 
-mod check; // check.rt: what a call asks of its inputs
 mod stars; // stars.rt: the list and the counts, pixel by pixel
-
-pub use check::pixel_outcome;
-pub use check::size_ok;
 
 pub enum Judgement {
     Refused(Refusal),
@@ -44,7 +40,7 @@ pub fn judge(
     ensures { λ r. ⌜ r ≡ judgementOf (now (samples .entry)) width height threshold row column ⌝ }
     ensures { λ r. ⌜ answerOf r ≡ answerFor (now (samples .entry)) width height threshold row column ⌝ }
 {
-    let outcome = check::pixel_outcome(samples, width, height, threshold, row, column);
+    let outcome = frame_input::pixel_outcome(samples, width, height, threshold, row, column);
     match outcome {
         Outcome::Refused(refusal) => Judgement::Refused(refusal),
         Outcome::Accepted => {
@@ -58,7 +54,7 @@ pub fn judge(
 pub fn list(samples: &[u16], width: usize, height: usize, threshold: usize) -> Listing
     ensures { λ r. ⌜ r ≡ listingOf (now (samples .entry)) width height threshold ⌝ }
 {
-    let outcome = check::frame_outcome(samples, width, height, threshold);
+    let outcome = frame_input::frame_outcome(samples, width, height, threshold);
     match outcome {
         Outcome::Refused(_) => Listing {
             outcome,

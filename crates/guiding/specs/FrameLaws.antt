@@ -7,8 +7,8 @@ use native.Mathlib.Omega.{arith}
 use Rattle.refusal.specs.Table.{refusalOf, lowest}
 use Rattle.refusal.specs.declared.Outcome.{Outcome}
 use Rattle.refusal.specs.declared.Outcome.the-variants.{Accepted, Refused}
-use Rattle.frame.specs.Input.{frameRows}
-use Rattle.frame.specs.InputLaws.{accepted-valid}
+use Rattle.frame_input.specs.Input.{frameRows}
+use Rattle.frame_input.specs.InputLaws.{accepted-valid}
 use Rattle.frame.specs.Stars.{reportOf}
 use Rattle.frame.specs.Calls.{listingOf}
 use Rattle.frame.specs.CallsLaws.{star-range}

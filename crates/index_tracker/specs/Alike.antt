@@ -6,7 +6,7 @@ use Prim.Native.Nat.{ℕ}
 use lib.IntN.{ℤ}
 use lib.ListN.{length}
 use Rattle.refusal.specs.Table.{lowest, answered}
-use Rattle.frame.specs.Input.{frameRows}
+use Rattle.frame_input.specs.Input.{frameRows}
 use Rattle.catalogue.specs.Alike.{Alike, stars-same, rows-same}
 use Rattle.tracker.specs.declared.Settings.{Settings}
 use Rattle.tracker.specs.Chain as plain

@@ -6,7 +6,7 @@ use lib.IntN.{ℤ}
 use lib.ListN.{length}
 use Rattle.refusal.specs.Numbers as number
 use Rattle.refusal.specs.Table.{Row, row, lowest, answered}
-use Rattle.frame.specs.Input.{frameRows}
+use Rattle.frame_input.specs.Input.{frameRows}
 use Rattle.catalogue.specs.Check as catalogue
 use Rattle.catalogue.specs.Stars.{starsOf}
 use Rattle.index.specs.Check.{isIndex}

@@ -12,7 +12,7 @@ use Rattle.refusal.specs.declared.Outcome.the-variants.{Accepted, Refused}
 use Rattle.refusal.specs.Numbers as number
 use Rattle.refusal.specs.Table.{refusalOf, lowest, answered, otherwise}
 use Rattle.refusal.specs.Laws.{lowest-here, lowest-append, otherwise-accepted}
-use Rattle.frame.specs.Input.{frameRows}
+use Rattle.frame_input.specs.Input.{frameRows}
 use Rattle.frame.specs.Calls.{listingOf}
 use Rattle.catalogue.specs.Check as catalogue
 use Rattle.catalogue.specs.Stars.{starsOf}

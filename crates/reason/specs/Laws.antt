@@ -22,7 +22,7 @@ use Rattle.verdict.specs.declared.Kind.the-variants as kinds
 use Rattle.verdict.specs.Verdict.{dark, edge, peakKind, kindOf, verdictOf}
 use Rattle.verdict.specs.Inside.{inside, amid}
 use Rattle.verdict.specs.Laws.{MeasuredAs, measured-as, LoneAs, lone-as}
-use Rattle.frame.specs.Input.{pixelRows}
+use Rattle.frame_input.specs.Input.{pixelRows}
 use Rattle.frame.specs.Calls.{judgementOf}
 use Rattle.frame.specs.declared.Judgement.{Judgement}
 use Rattle.frame.specs.declared.Judgement.the-variants as judgements

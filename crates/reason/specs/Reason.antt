@@ -11,7 +11,7 @@ use Rattle.centroid.specs.Centroid.{centroidOf}
 use Rattle.verdict.specs.declared.Kind.{Kind}
 use Rattle.verdict.specs.declared.Kind.the-variants as kinds
 use Rattle.verdict.specs.Verdict.{dark, edge, kindNumber}
-use Rattle.frame.specs.Input.{pixelRows}
+use Rattle.frame_input.specs.Input.{pixelRows}
 use Rattle.reason.specs.declared.Reason.{Reason}
 use Rattle.reason.specs.declared.Reason.the-variants.{Dark, Beaten, Edge, Lone, Measured}
 use Rattle.reason.specs.declared.Explanation.{Explanation}

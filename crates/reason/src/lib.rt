@@ -179,7 +179,7 @@ pub fn explain(
 ) -> Explanation
     ensures { λ r. ⌜ r ≡ explanationOf (now (samples .entry)) width height threshold row column ⌝ }
 {
-    let outcome = frame::pixel_outcome(samples, width, height, threshold, row, column);
+    let outcome = frame_input::pixel_outcome(samples, width, height, threshold, row, column);
     match outcome {
         Outcome::Refused(refusal) => Explanation::Refused(refusal),
         Outcome::Accepted => {

@@ -8,7 +8,7 @@ use lib.ListN.{length, drop}
 use Rattle.refusal.specs.declared.Outcome.{Outcome}
 use Rattle.refusal.specs.Table.{lowest, answered}
 use Rattle.frame.specs.declared.Report.{Report}
-use Rattle.frame.specs.Input.{frameRows}
+use Rattle.frame_input.specs.Input.{frameRows}
 use Rattle.frame.specs.Calls.{listingOf}
 use Rattle.catalogue.specs.Alike.{Alike, stars-same, rows-same}
 use Rattle.ranking.specs.Alike.{ranking-same}

@@ -17,8 +17,8 @@ use Rattle.numbers.specs.Within.{Within}
 use Rattle.vectors.specs.declared.Vec3.{Vec3}
 use Rattle.vectors.specs.Vectors.{Within3}
 use Rattle.frame.specs.declared.Report.{Report}
-use Rattle.frame.specs.Input.{sizeOut, lengthOut, firstOver, frameRows}
-use Rattle.frame.specs.InputLaws.{size-most}
+use Rattle.frame_input.specs.Input.{sizeOut, lengthOut, firstOver, frameRows}
+use Rattle.frame_input.specs.InputLaws.{size-most}
 use Rattle.frame.specs.Calls.{listingOf}
 use Rattle.catalogue.specs.Check as catalogue
 use Rattle.catalogue.specs.Check.{lengthOk, brokenOf, refusalsOf as catalogueRows}

@@ -12,7 +12,7 @@ use Rattle.refusal.specs.Table.{Row, row, lowest, answered}
 use Rattle.vectors.specs.declared.Vec3.{Vec3}
 use Rattle.frame.specs.declared.Report.{Report}
 use Rattle.frame.specs.declared.Listing.{Listing}
-use Rattle.frame.specs.Input.{frameRows}
+use Rattle.frame_input.specs.Input.{frameRows}
 use Rattle.frame.specs.Stars.{nothing}
 use Rattle.frame.specs.Calls.{listingOf}
 use Rattle.lens.specs.Lens.{lensOk}

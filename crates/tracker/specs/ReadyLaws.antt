@@ -15,8 +15,8 @@ use Rattle.refusal.specs.declared.Outcome.the-variants.{Accepted, Refused}
 use Rattle.refusal.specs.Table.{Row, lowest, answered, otherwise}
 use Rattle.refusal.specs.Laws.{Silent, accepted-silent, otherwise-accepted, Every, every-append, lowest-every}
 use Rattle.frame.specs.declared.Report.{Report}
-use Rattle.frame.specs.Input.{frameRows}
-use Rattle.frame.specs.InputLaws as input
+use Rattle.frame_input.specs.Input.{frameRows}
+use Rattle.frame_input.specs.InputLaws as input
 use Rattle.frame.specs.Stars.{nought, nothing, measuredOf, firstEight, reportOf, numberOf, isMeasured}
 use Rattle.frame.specs.Calls.{listingOf}
 use Rattle.frame.specs.CallsLaws.{star-range, zeros-behind}

@@ -7,7 +7,7 @@ use lib.ListN.{length, drop, length-append, length-drop}
 use Rattle.refusal.specs.declared.Outcome.{Outcome}
 use Rattle.refusal.specs.declared.Outcome.the-variants.{Accepted, Refused}
 use Rattle.refusal.specs.Table.{lowest, answered}
-use Rattle.frame.specs.Input.{frameRows}
+use Rattle.frame_input.specs.Input.{frameRows}
 use Rattle.frame.specs.Calls.{listingOf}
 use Rattle.catalogue.specs.Format.{recordsIn}
 use Rattle.catalogue.specs.Check as catalogue

@@ -4,8 +4,8 @@ use mathlib.Core.Bool.{false}
 use mathlib.Core.Path.{_≡_, sym, _∙_}
 use Prim.Native.Nat.{_*_, _<_}
 use native.Mathlib.Omega.{arith}
-use Rattle.frame.specs.Input.{sizeOut}
-use Rattle.frame.specs.InputLaws.{size-most}
+use Rattle.frame_input.specs.Input.{sizeOut}
+use Rattle.frame_input.specs.InputLaws.{size-most}
 use Rattle.burst.specs.Admit.{size-some, frames-few, size-refused, part-refused, many-refused, room-refused, none-refused}
 use Rattle.burst.proofs.outcome.Statement.{statement}
 use Rattle.burst.proofs.outcome.Tie as tie

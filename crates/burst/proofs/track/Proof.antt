@@ -4,7 +4,7 @@ use mathlib.Core.Path.{_≡_, sym, ap, _∙_}
 use native.Mathlib.Omega.{arith}
 use Rattle.refusal.specs.declared.Outcome.the-variants.{Accepted}
 use Rattle.refusal.specs.Table.{lowest}
-use Rattle.frame.specs.InputLaws.{size-most}
+use Rattle.frame_input.specs.InputLaws.{size-most}
 use Rattle.burst.specs.Burst.{Call, call, refusalsOf, answerOf}
 use Rattle.burst.specs.Admit.{size-some, accepted-size, accepted-whole, answers}
 use Rattle.burst.specs.Laws.{accepted-answer, accepted-records, accepted-room, refused-answer, refused-records, refused-room}

@@ -1,7 +1,7 @@
 -- `frame::judge` meets its contract: an accepted call has passed what the verdict asks. Assumes nothing.
 use borrow.Author.Needs.{needs}
 use mathlib.Core.Path.{_≡_, sym, ap, _∙_}
-use Rattle.frame.specs.InputLaws.{accepted-pixel}
+use Rattle.frame_input.specs.InputLaws.{accepted-pixel}
 use Rattle.frame.specs.Calls.{judgementOf, answerOf, answerFor}
 use Rattle.frame.specs.CallsLaws.{answers}
 use Rattle.frame.specs.declared.Judgement.{Judgement}

@@ -1,7 +1,7 @@
 -- `frame::list` meets its contract: an accepted call has passed what the list asks. Assumes nothing.
 use borrow.Author.Needs.{needs}
 use mathlib.Core.Path.{sym, _∙_}
-use Rattle.frame.specs.InputLaws.{accepted-valid}
+use Rattle.frame_input.specs.InputLaws.{accepted-valid}
 use Rattle.frame.specs.Calls.{listingOf}
 use Rattle.frame.proofs.list.Statement.{statement}
 use Rattle.frame.proofs.list.Tie as tie

@@ -40,10 +40,11 @@ rank-right-requires : tie.Need-rank-right-requires
 rank-right-requires c κs =
     let d = c .before .before in
     let s = start d in
-    let a = s .args in
-    ( s .pre
-    , index-true (a .stars .now) (a .floor) (a .index .now) (sym (tested d) ∙ not-false (d .matches .result) (c .before .if1 .left))
-      ∙ ap (indexOf (a .stars .now)) (sym (toZ-ofZ w64 (s .args .floor) (s .fits .floor))))
+    let a = s .args in (
+      s .pre,
+      index-true (a .stars .now) (a .floor) (a .index .now) (sym (tested d) ∙ not-false (d .matches .result) (c .before .if1 .left))
+          ∙ ap (indexOf (a .stars .now)) (sym (toZ-ofZ w64 (s .args .floor) (s .fits .floor))),
+    )
 
 same-length : tie.Need-same-length
 same-length c = search needs
@@ -52,9 +53,10 @@ returns-2 : tie.Need-returns-2
 returns-2 c =
     let w = c .before .before in
     let s = start (w .before .before .before) in
-    let a = s .args in
-    ( w .rank-right .ensures .0 ∙ ap (λ (f : ℤ). outcomeFrom (a .directions .now) (a .stars .now) (a .index .now) f (a .tolerance) (length (a .room .now))) (toZ-ofZ w64 (s .args .floor) (s .fits .floor))
-    , w .rank-right .ensures .1 ∙ ap (λ (f : ℤ). roomFrom (a .directions .now) (a .stars .now) (a .index .now) f (a .tolerance) (a .room .now)) (toZ-ofZ w64 (s .args .floor) (s .fits .floor)))
+    let a = s .args in (
+      w .rank-right .ensures .0 ∙ ap (λ (f : ℤ). outcomeFrom (a .directions .now) (a .stars .now) (a .index .now) f (a .tolerance) (length (a .room .now))) (toZ-ofZ w64 (s .args .floor) (s .fits .floor)),
+      w .rank-right .ensures .1 ∙ ap (λ (f : ℤ). roomFrom (a .directions .now) (a .stars .now) (a .index .now) f (a .tolerance) (a .room .now)) (toZ-ofZ w64 (s .args .floor) (s .fits .floor)),
+    )
 
 pub rank-from-spec : {M : Type 1} → statement M
 rank-from-spec = tie.close (tie.spec matches-requires plain-requires returns rank-right-requires same-length returns-2)

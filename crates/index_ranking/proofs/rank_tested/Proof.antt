@@ -65,9 +65,10 @@ rank-right-requires : tie.Need-rank-right-requires
 rank-right-requires c κs =
     let t = c .before .before in
     let s = start (t .before) in
-    let f = toZ-ofZ w64 (s .args .floor) (s .fits .floor) in
-    ( subst (Listed 512) (sym (lent t)) (valid-listed _ (valid (t .before) .0))
-    , s .pre ∙ (λ i. indexOf (sym (lent t) i) (sym f i)))
+    let f = toZ-ofZ w64 (s .args .floor) (s .fits .floor) in (
+      subst (Listed 512) (sym (lent t)) (valid-listed _ (valid (t .before) .0)),
+      s .pre ∙ (λ i. indexOf (sym (lent t) i) (sym f i)),
+    )
 
 returns : tie.Need-returns
 returns c =
@@ -85,9 +86,10 @@ returns-2 c =
     let s = start (t .before) in
     let x = s .args in
     let v = valid (t .before) .0 in
-    let f = toZ-ofZ w64 (x .floor) (s .fits .floor) in
-    ( w .rank-right .ensures .0 ∙ (λ i. outcomeFrom (x .directions .now) (lent t i) (x .index .now) (f i) (x .tolerance) (length (x .room .now))) ∙ sym (valid-outcome (whole s) v)
-    , w .rank-right .ensures .1 ∙ (λ i. roomFrom (x .directions .now) (lent t i) (x .index .now) (f i) (x .tolerance) (x .room .now)) ∙ sym (valid-room (whole s) v))
+    let f = toZ-ofZ w64 (x .floor) (s .fits .floor) in (
+      w .rank-right .ensures .0 ∙ (λ i. outcomeFrom (x .directions .now) (lent t i) (x .index .now) (f i) (x .tolerance) (length (x .room .now))) ∙ sym (valid-outcome (whole s) v),
+      w .rank-right .ensures .1 ∙ (λ i. roomFrom (x .directions .now) (lent t i) (x .index .now) (f i) (x .tolerance) (x .room .now)) ∙ sym (valid-room (whole s) v),
+    )
 
 pub rank-tested-spec : {M : Type 1} → statement M
 rank-tested-spec =

@@ -1,6 +1,6 @@
 -- `reason::explain` meets its contract: an accepted call has passed what the reason asks. Assumes nothing.
 use mathlib.Core.Path.{sym, _∙_}
-use Rattle.frame.specs.InputLaws.{accepted-pixel}
+use Rattle.frame_input.specs.InputLaws.{accepted-pixel}
 use Rattle.reason.specs.Reason.{explanationOf}
 use borrow.Author.Needs.{needs}
 use Rattle.reason.proofs.explain.Statement.{statement}

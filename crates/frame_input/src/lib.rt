@@ -4,7 +4,7 @@ ghost use mathlib.Core.Path.{_≡_};
 ghost use Prim.Native.Nat.{ℕ, _≤_, _<_};
 ghost use lib.ListN.{length, getD};
 ghost use Rattle.refusal.specs.Table.{lowest};
-ghost use Rattle.frame.specs.Input.{within, sizeOut, firstOver, frameRows, pixelRows};
+ghost use Rattle.frame_input.specs.Input.{within, sizeOut, firstOver, frameRows, pixelRows};
 use refusal::Outcome;
 
 // The largest sample.
@@ -76,12 +76,7 @@ pub fn size_ok(width: usize, height: usize) -> bool
 }
 
 // Width and height are tested before their product is formed, so it cannot overflow.
-pub(crate) fn frame_outcome(
-    samples: &[u16],
-    width: usize,
-    height: usize,
-    threshold: usize,
-) -> Outcome
+pub fn frame_outcome(samples: &[u16], width: usize, height: usize, threshold: usize) -> Outcome
     ensures { λ r. ⌜ r ≡ lowest (frameRows (now (samples .entry)) width height threshold) ⌝ }
 {
     if !size_ok(width, height) {

@@ -1,12 +1,12 @@
--- `frame::check::look_for_over` meets its contract. The invariant: no sample passed is too large. Assumes nothing.
+-- `frame_input::look_for_over` meets its contract. The invariant: no sample passed is too large. Assumes nothing.
 use Prim.Native.Nat.{ℕ, _≤_, _<_, _-_}
 use native.Mathlib.Omega.{arith}
 use borrow.Author.Count.{below-none, below-more}
 use borrow.Author.Needs.{needs}
 use lib.ListN.{length, getD}
-use Rattle.frame.specs.InputLaws.{over-here, over-end}
-use Rattle.frame.proofs.check.look_for_over.Statement.{statement}
-use Rattle.frame.proofs.check.look_for_over.Tie as tie
+use Rattle.frame_input.specs.InputLaws.{over-here, over-end}
+use Rattle.frame_input.proofs.look_for_over.Statement.{statement}
+use Rattle.frame_input.proofs.look_for_over.Tie as tie
 
 abbrev Inv-loop : tie.InvT-loop
 Inv-loop samples i₀ i = (i ≤ length samples) × ((k : ℕ) → k < i → getD samples k 0 ≤ 4095)

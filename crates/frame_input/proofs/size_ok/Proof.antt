@@ -1,9 +1,9 @@
--- `frame::check::size_ok` meets its contract: each side's test decides its half of the row's condition. Assumes nothing.
+-- `frame_input::size_ok` meets its contract: each side's test decides its half of the row's condition. Assumes nothing.
 use borrow.Author.Needs.{needs}
 use borrow.Author.Tests.{not-true, not-false}
 use mathlib.Core.Path.{_≡_, sym, _∙_}
-use Rattle.frame.proofs.check.size_ok.Statement.{statement}
-use Rattle.frame.proofs.check.size_ok.Tie as tie
+use Rattle.frame_input.proofs.size_ok.Statement.{statement}
+use Rattle.frame_input.proofs.size_ok.Tie as tie
 
 is-within-requires : tie.Need-is-within-requires
 is-within-requires c κs = search needs

@@ -1,14 +1,14 @@
--- `frame::check::frame_outcome` meets its contract: each answer is the first row that applies, by the tests passed on the way. Assumes nothing.
+-- `frame_input::frame_outcome` meets its contract: each answer is the first row that applies, by the tests passed on the way. Assumes nothing.
 use borrow.Author.Needs.{needs}
 use mathlib.Core.Bool.{true, false}
 use mathlib.Core.Path.{_≡_, sym, _∙_}
 use native.Mathlib.Omega.{arith}
 use borrow.Author.Tests.{not-true, not-false, lt-ltb, le-ltb, eq-eqb, ne-eqb}
 use Rattle.refusal.specs.Table.{lowest}
-use Rattle.frame.specs.Input.{within, sizeOut}
-use Rattle.frame.specs.InputLaws.{size-most}
-use Rattle.frame.proofs.check.frame_outcome.Statement.{statement}
-use Rattle.frame.proofs.check.frame_outcome.Tie as tie
+use Rattle.frame_input.specs.Input.{within, sizeOut}
+use Rattle.frame_input.specs.InputLaws.{size-most}
+use Rattle.frame_input.proofs.frame_outcome.Statement.{statement}
+use Rattle.frame_input.proofs.frame_outcome.Tie as tie
 
 -- the tests that the ways on have passed
 size-right : (c : tie.Else1) → let a = c .before .before .before .args in sizeOut (a .width) (a .height) ≡ false

@@ -1,7 +1,7 @@
--- `frame::check::is_within` meets its contract: each answer is the case of `within` that its test chooses. Assumes nothing.
+-- `frame_input::is_within` meets its contract: each answer is the case of `within` that its test chooses. Assumes nothing.
 use borrow.Author.Tests.{le-leb, lt-leb}
-use Rattle.frame.proofs.check.is_within.Statement.{statement}
-use Rattle.frame.proofs.check.is_within.Tie as tie
+use Rattle.frame_input.proofs.is_within.Statement.{statement}
+use Rattle.frame_input.proofs.is_within.Tie as tie
 
 returns : tie.Need-returns
 returns c = simp (lt-leb _ _ (c .if1 .taken))

@@ -1,11 +1,11 @@
--- `frame::check::largest` meets its contract. The invariant: no sample passed is above the largest so far. Assumes nothing.
+-- `frame_input::largest` meets its contract. The invariant: no sample passed is above the largest so far. Assumes nothing.
 use Prim.Native.Nat.{ℕ, _≤_, _<_, _-_}
 use native.Mathlib.Omega.{arith}
 use borrow.Author.Count.{below-more}
 use borrow.Author.Needs.{needs}
 use lib.ListN.{length, getD}
-use Rattle.frame.proofs.check.largest.Statement.{statement}
-use Rattle.frame.proofs.check.largest.Tie as tie
+use Rattle.frame_input.proofs.largest.Statement.{statement}
+use Rattle.frame_input.proofs.largest.Tie as tie
 
 abbrev Inv-loop : tie.InvT-loop
 Inv-loop samples most₀ i₀ most i = (i ≤ length samples) × ((k : ℕ) → k < i → getD samples k 0 ≤ most)

@@ -1,9 +1,9 @@
--- `frame::check::first_over` meets its contract: where no sample is too large, the first is past the end. Assumes nothing.
+-- `frame_input::first_over` meets its contract: where no sample is too large, the first is past the end. Assumes nothing.
 use native.Mathlib.Omega.{arith}
 use borrow.Author.Needs.{needs}
-use Rattle.frame.specs.InputLaws.{over-end}
-use Rattle.frame.proofs.check.first_over.Statement.{statement}
-use Rattle.frame.proofs.check.first_over.Tie as tie
+use Rattle.frame_input.specs.InputLaws.{over-end}
+use Rattle.frame_input.proofs.first_over.Statement.{statement}
+use Rattle.frame_input.proofs.first_over.Tie as tie
 
 largest-requires : tie.Need-largest-requires
 largest-requires c κs = search needs

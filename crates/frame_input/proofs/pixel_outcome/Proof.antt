@@ -1,13 +1,13 @@
--- `frame::check::pixel_outcome` meets its contract: the pixel's row stands behind those of the frame. Assumes nothing.
+-- `frame_input::pixel_outcome` meets its contract: the pixel's row stands behind those of the frame. Assumes nothing.
 use borrow.Author.Needs.{needs}
 use mathlib.Core.Path.{_≡_, sym, _∙_}
 use borrow.Author.Tests.{le-leb, lt-leb}
 use Rattle.refusal.specs.Table.{lowest}
 use Rattle.refusal.specs.declared.Outcome.the-variants.{Accepted}
-use Rattle.frame.specs.Input.{frameRows}
-use Rattle.frame.specs.InputLaws.{pixel-refused, pixel-outside, pixel-inside}
-use Rattle.frame.proofs.check.pixel_outcome.Statement.{statement}
-use Rattle.frame.proofs.check.pixel_outcome.Tie as tie
+use Rattle.frame_input.specs.Input.{frameRows}
+use Rattle.frame_input.specs.InputLaws.{pixel-refused, pixel-outside, pixel-inside}
+use Rattle.frame_input.proofs.pixel_outcome.Statement.{statement}
+use Rattle.frame_input.proofs.pixel_outcome.Tie as tie
 
 -- past the frame's own tests
 accepted : (c : tie.After-enum-told2)

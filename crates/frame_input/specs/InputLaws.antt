@@ -15,7 +15,7 @@ use Rattle.refusal.specs.Laws.{Silent, accepted-silent, lowest-here, lowest-nex
 use Rattle.refusal.specs.declared.Refusal.{Refusal}
 use Rattle.refusal.specs.declared.Outcome.{Outcome}
 use Rattle.refusal.specs.declared.Outcome.the-variants.{Accepted, Refused}
-use Rattle.frame.specs.Input.{within, sizeOut, lengthOut, thresholdOut, firstOver, sampleOut, pixelOut, frameRows, pixelRows}
+use Rattle.frame_input.specs.Input.{within, sizeOut, lengthOut, thresholdOut, firstOver, sampleOut, pixelOut, frameRows, pixelRows}
 
 -- ---- tests taken apart
 
