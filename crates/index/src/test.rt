@@ -5,15 +5,16 @@ use index_records::format;
 ghost use mathlib.Core.Bool.{true, false};
 ghost use mathlib.Core.Path.{_≡_};
 ghost use Rattle.vectors.specs.Triples.{triples, Listed};
-ghost use Rattle.index_records.specs.Format.{keyFrom, encoded};
+ghost use Rattle.index_records.specs.Format.{turned, keyFrom, encoded};
 ghost use Rattle.index_records.specs.Order.{sorted};
 ghost use Rattle.index.specs.Index.{pairsOf};
 ghost use Rattle.index.specs.Check.{Says, PairOk, Follows};
 
-// Whether a record's numbers are those of a pair, and its dot product the pair's.
-fn pair_ok(stars: &[i32], floor: u64, high: u64, low: u32) -> bool
+// Whether a record's numbers are those of a pair, and its dot product the pair's. The product is brought to the form of the record's word, not the word
+// to the product's, so that the word's bytes are read at once.
+fn pair_ok(stars: &[i32], floor: u64, word: u64, low: u32) -> bool
     requires { ⌜ Listed 512 (now stars) ⌝ }
-    ensures { λ r. ⌜ Says r (PairOk (now (stars .entry)) floor high low) ⌝ }
+    ensures { λ r. ⌜ Says r (PairOk (now (stars .entry)) floor (turned word) low) ⌝ }
 {
     let a = (low / 65536) as usize;
     let b = (low % 65536) as usize;
@@ -23,10 +24,11 @@ fn pair_ok(stars: &[i32], floor: u64, high: u64, low: u32) -> bool
     if stars.len() / 3 <= b {
         return false;
     }
-    if high < floor {
+    let product = key::product(stars, a, b);
+    if product < floor {
         return false;
     }
-    if high != key::product(stars, a, b) {
+    if word != format::turn(product) {
         return false;
     }
     true
@@ -38,16 +40,16 @@ fn record_ok(
     floor: u64,
     before_high: u64,
     before_low: u32,
-    high: u64,
+    word: u64,
     low: u32,
 ) -> bool
     requires { ⌜ Listed 512 (now stars) ⌝ }
-    ensures { λ r. ⌜ Says r (Follows (now (stars .entry)) floor (keyFrom «before_high» «before_low») high low) ⌝ }
+    ensures { λ r. ⌜ Says r (Follows (now (stars .entry)) floor (keyFrom «before_high» «before_low») (turned word) low) ⌝ }
 {
-    if !pair_ok(stars, floor, high, low) {
+    if !pair_ok(stars, floor, word, low) {
         return false;
     }
-    if !format::less(before_high, before_low, high, low) {
+    if !format::less(before_high, before_low, format::turn(word), low) {
         return false;
     }
     true
@@ -66,12 +68,12 @@ pub(crate) fn is_index(stars: &[i32], floor: u64, index: &[u8]) -> bool
     let mut before_low: u32 = 0;
     let mut i: usize = 0;
     while i < count {
-        let high = format::high(index, i);
+        let word = format::word(index, i);
         let low = format::low(index, i);
-        if !record_ok(stars, floor, before_high, before_low, high, low) {
+        if !record_ok(stars, floor, before_high, before_low, word, low) {
             return false;
         }
-        before_high = high;
+        before_high = format::turn(word);
         before_low = low;
         i += 1;
     }

@@ -18,19 +18,25 @@ returns c = says-no (λ p. omega (arith, p .order, c .if1 .taken))
 returns-2 : tie.Need-returns-2
 returns-2 c = says-no (λ p. omega (arith, p .inside, c .if2 .taken))
 
-returns-3 : tie.Need-returns-3
-returns-3 c = says-no (λ p. omega (arith, p .taken, c .if3 .taken))
-
 product-requires : tie.Need-product-requires
 product-requires c κs = search needs
 
+returns-3 : tie.Need-returns-3
+returns-3 c = says-no (λ p. omega (arith, p .taken, p .is, c .if3 .taken, c .before .product .ensures))
+
+turn-requires : tie.Need-turn-requires
+turn-requires c κs = search needs
+
 returns-4 : tie.Need-returns-4
-returns-4 c = says-no (λ p. omega (arith, p .is, c .if4 .taken, c .before .product .ensures))
+returns-4 c = says-no (λ p. omega (arith, p .is, c .if4 .taken, c .before .turn .ensures, c .before .before .before .product .ensures))
 
 returns-5 : tie.Need-returns-5
-returns-5 c = says-yes (record { order = omega arith; inside = omega arith; taken = omega arith; is = omega (arith, c .if4 .left, c .before .product .ensures) })
+returns-5 c =
+    let t = c .before in
+    let e = t .before .before .product .ensures in
+    says-yes (record { order = omega arith; inside = omega arith; taken = omega (arith, c .if4 .left, t .turn .ensures, e); is = omega (arith, c .if4 .left, t .turn .ensures, e) })
 
 pub pair-ok-spec : {M : Type 1} → statement M
 pair-ok-spec =
     tie.close
-    (tie.spec cast-a cast-b returns returns-2 returns-3 product-requires returns-4 returns-5)
+    (tie.spec cast-a cast-b returns returns-2 product-requires returns-3 turn-requires returns-4 returns-5)
