@@ -5,16 +5,15 @@ use index_records::format;
 ghost use mathlib.Core.Bool.{true, false};
 ghost use mathlib.Core.Path.{_≡_};
 ghost use Rattle.vectors.specs.Triples.{triples, Listed};
-ghost use Rattle.index_records.specs.Format.{turned, keyFrom, encoded};
+ghost use Rattle.index_records.specs.Format.{highFrom, keyFrom, encoded};
 ghost use Rattle.index_records.specs.Order.{sorted};
 ghost use Rattle.index.specs.Index.{pairsOf};
 ghost use Rattle.index.specs.Check.{Says, PairOk, Follows};
 
-// Whether a record's numbers are those of a pair, and its dot product the pair's. The product is brought to the form of the record's word, not the word
-// to the product's, so that the word's bytes are read at once.
-fn pair_ok(stars: &[i32], floor: u64, word: u64, low: u32) -> bool
+// Whether a record's numbers are those of a pair, and its dot product the pair's. The product is brought to the form of the record's bytes.
+fn pair_ok(stars: &[i32], floor: u64, top: u32, middle: u32, low: u32) -> bool
     requires { ⌜ Listed 512 (now stars) ⌝ }
-    ensures { λ r. ⌜ Says r (PairOk (now (stars .entry)) floor (turned word) low) ⌝ }
+    ensures { λ r. ⌜ Says r (PairOk (now (stars .entry)) floor (highFrom top middle) low) ⌝ }
 {
     let a = (low / 65536) as usize;
     let b = (low % 65536) as usize;
@@ -28,7 +27,11 @@ fn pair_ok(stars: &[i32], floor: u64, word: u64, low: u32) -> bool
     if product < floor {
         return false;
     }
-    if word != format::turn(product) {
+    let word = format::turn(product);
+    if top != (word / 4294967296) as u32 {
+        return false;
+    }
+    if middle != (word % 4294967296) as u32 {
         return false;
     }
     true
@@ -40,16 +43,17 @@ fn record_ok(
     floor: u64,
     before_high: u64,
     before_low: u32,
-    word: u64,
+    top: u32,
+    middle: u32,
     low: u32,
 ) -> bool
     requires { ⌜ Listed 512 (now stars) ⌝ }
-    ensures { λ r. ⌜ Says r (Follows (now (stars .entry)) floor (keyFrom «before_high» «before_low») (turned word) low) ⌝ }
+    ensures { λ r. ⌜ Says r (Follows (now (stars .entry)) floor (keyFrom «before_high» «before_low») (highFrom top middle) low) ⌝ }
 {
-    if !pair_ok(stars, floor, word, low) {
+    if !pair_ok(stars, floor, top, middle, low) {
         return false;
     }
-    if !format::less(before_high, before_low, format::turn(word), low) {
+    if !format::less(before_high, before_low, format::high_from(top, middle), low) {
         return false;
     }
     true
@@ -68,12 +72,13 @@ pub(crate) fn is_index(stars: &[i32], floor: u64, index: &[u8]) -> bool
     let mut before_low: u32 = 0;
     let mut i: usize = 0;
     while i < count {
-        let word = format::word(index, i);
+        let top = format::top(index, i);
+        let middle = format::middle(index, i);
         let low = format::low(index, i);
-        if !record_ok(stars, floor, before_high, before_low, word, low) {
+        if !record_ok(stars, floor, before_high, before_low, top, middle, low) {
             return false;
         }
-        before_high = format::turn(word);
+        before_high = format::high_from(top, middle);
         before_low = low;
         i += 1;
     }

@@ -1,10 +1,11 @@
 -- `test::is_index` meets its contract. The loop's invariant: the first i records keep their rule, and the last key is that of the one before. Assumes nothing.
-use mathlib.Core.Path.{_≡_, refl, sym, ap, _∙_}
+use mathlib.Core.Path.{_≡_, refl, sym, _∙_}
 use Prim.Native.Nat.{ℕ, _+_, _-_, _≤_, _<_}
 use native.Mathlib.Omega.{arith}
 use borrow.Author.Count.{below-none, below-more}
 use borrow.Author.Tests.{not-true, not-false}
-use Rattle.index_records.specs.Format.{turned, highAt, keyFrom}
+use Rattle.index_records.specs.Format.{highFrom, highAt, keyFrom}
+use Rattle.index_records.specs.FormatLaws.{high-from}
 use Rattle.index.specs.Check.{Says, keyBefore, RecordOk}
 use Rattle.index.specs.CheckLaws.{says-yes, says-no, says-record, before-next, index-size, ok-all, all-ok}
 use borrow.Author.Needs.{needs}
@@ -34,8 +35,11 @@ returns c =
 loop-holds : tie.Need-loop-holds Inv-loop μ-loop
 loop-holds c = (omega arith, below-none _, refl)
 
-word-requires : tie.Need-word-requires Inv-loop μ-loop
-word-requires c κs = search needs
+top-requires : tie.Need-top-requires Inv-loop μ-loop
+top-requires c κs = search needs
+
+middle-requires : tie.Need-middle-requires Inv-loop μ-loop
+middle-requires c κs = search needs
 
 low-requires : tie.Need-low-requires Inv-loop μ-loop
 low-requires c κs = search needs
@@ -43,27 +47,32 @@ low-requires c κs = search needs
 record-ok-requires : tie.Need-record-ok-requires Inv-loop μ-loop
 record-ok-requires c κs = search needs
 
+-- the number that was read
+read : (o : tie.After-low Inv-loop μ-loop)
+    → let l = o .before .before .before .before in
+    highFrom (o .before .before .top .result) (o .before .middle .result) ≡ highAt (l .before .before .before .before .args .index .now) (l .loop .i)
+read o = (λ k. highFrom (o .before .before .top .ensures k) (o .before .middle .ensures k)) ∙ high-from _ (o .before .before .before .before .loop .i)
+
 -- what is known of record i
 ok-says : (c : tie.After-record-ok Inv-loop μ-loop)
-    → let l = c .before .before .before .before in let x = l .before .before .before .before .args in
+    → let l = c .before .before .before .before .before in let x = l .before .before .before .before .args in
     Says (c .record-ok .result) (RecordOk (x .stars .now) (x .floor) (x .index .now) (l .loop .i))
-unfolding highAt
 ok-says c =
-    let l = c .before .before .before .before in
-    says-record _ _ _ (l .loop .i) (l .loop .inv .2) (ap turned (c .before .before .word .ensures)) (c .before .low .ensures) (c .record-ok .ensures)
+    let l = c .before .before .before .before .before in
+    says-record _ _ _ (l .loop .i) (l .loop .inv .2) (read (c .before)) (c .before .low .ensures) (c .record-ok .ensures)
 
 returns-2 : tie.Need-returns-2 Inv-loop μ-loop
 returns-2 c =
     let r = c .before .record-ok in
-    let l = c .before .before .before .before .before in
+    let l = c .before .before .before .before .before .before in
     let k = l .before .before in
     let s = k .before .before in
     let x = s .args in
     says-no (λ e. ok-says (c .before) .fails (not-true (r .result) (c .if2 .taken))
     (ok-all (x .stars .now) (x .floor) (x .index .now) (s .pre) (λ n. k .before .shared-slice-known .given n .fits) e (l .loop .i) (omega (arith, k .count .ensures .0))))
 
-turn-requires : tie.Need-turn-requires Inv-loop μ-loop
-turn-requires c κs = search needs
+high-from-requires : tie.Need-high-from-requires Inv-loop μ-loop
+high-from-requires c κs = search needs
 
 add-i : tie.Need-add-i Inv-loop μ-loop
 add-i c = search needs
@@ -72,13 +81,12 @@ loop-less : tie.Need-loop-less Inv-loop μ-loop
 loop-less c = search needs
 
 loop-again : tie.Need-loop-again Inv-loop μ-loop
-unfolding highAt
 loop-again c =
     let k = c .before .before in
     let o = k .before in
-    let l = o .before .before .before in
-    let e : keyFrom (c .turn .result) (o .low .result) ≡ keyBefore (l .before .before .before .before .args .index .now) (l .loop .i + 1) =
-    (λ i. keyFrom ((c .turn .ensures ∙ ap turned (o .before .word .ensures)) i) (o .low .ensures i)) ∙ sym (before-next _ (l .loop .i)) in
+    let l = o .before .before .before .before in
+    let e : keyFrom (c .high-from .result) (o .low .result) ≡ keyBefore (l .before .before .before .before .args .index .now) (l .loop .i + 1) =
+    (λ i. keyFrom ((c .high-from .ensures ∙ read o) i) (o .low .ensures i)) ∙ sym (before-next _ (l .loop .i)) in
     (omega arith, below-more _ _ (l .loop .inv .1) (ok-says k .holds (not-false (k .record-ok .result) (c .before .if2 .left))), e)
 
 returns-3 : tie.Need-returns-3 Inv-loop μ-loop
@@ -101,11 +109,12 @@ is-index-spec =
     mul-if1
     returns
     loop-holds
-    word-requires
+    top-requires
+    middle-requires
     low-requires
     record-ok-requires
     returns-2
-    turn-requires
+    high-from-requires
     add-i
     loop-less
     loop-again

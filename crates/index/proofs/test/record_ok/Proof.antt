@@ -14,8 +14,8 @@ pair-ok-requires c κs = search needs
 returns : tie.Need-returns
 returns c = let p = c .before .pair-ok in says-no (λ r. p .ensures .fails (not-true (p .result) (c .if1 .taken)) (r .pair))
 
-turn-requires : tie.Need-turn-requires
-turn-requires c κs = search needs
+high-from-requires : tie.Need-high-from-requires
+high-from-requires c κs = search needs
 
 less-requires : tie.Need-less-requires
 less-requires c κs = search needs
@@ -23,7 +23,7 @@ less-requires c κs = search needs
 returns-2 : tie.Need-returns-2
 returns-2 c =
     let k = c .before .less in
-    let t = c .before .before .turn in
+    let t = c .before .before .high-from in
     let x = c .before .before .before .before .before .args in
     let l = ltb-false (keyFrom (x .before-high) (x .before-low)) (keyFrom (t .result) (x .low)) (sym (k .ensures) ∙ not-true (k .result) (c .if2 .taken)) in
     says-no (λ r. omega (arith, r .rises, t .ensures))
@@ -31,7 +31,7 @@ returns-2 c =
 returns-3 : tie.Need-returns-3
 returns-3 c =
     let k = c .before .less in
-    let t = c .before .before .turn in
+    let t = c .before .before .high-from in
     let p = c .before .before .before .before .pair-ok in
     let x = c .before .before .before .before .before .args in
     let l = ltb-true (keyFrom (x .before-high) (x .before-low)) (keyFrom (t .result) (x .low)) (sym (k .ensures) ∙ not-false (k .result) (c .if2 .left)) in
@@ -39,4 +39,4 @@ returns-3 c =
 
 pub record-ok-spec : {M : Type 1} → statement M
 record-ok-spec =
-    tie.close (tie.spec pair-ok-requires returns turn-requires less-requires returns-2 returns-3)
+    tie.close (tie.spec pair-ok-requires returns high-from-requires less-requires returns-2 returns-3)
