@@ -572,6 +572,25 @@ MN_FUNCTION struct mn_refusal mn_turned(const struct mn_cosines *cosines, const 
     return mn_take_refusal(out);
 }
 
+/* Whether floats are rounded to the nearest and subnormals kept, 1 or 0, as the promises on lens, cosines and targets ask: for a board to call at start,
+ * and in each thread that sets its own. Another rounding mode, or zeros for subnormals, as start-up code of -ffast-math sets, makes other floats. The
+ * rows are 1 + 2^-53, 1 + 3 x 2^-54 and 2^-1074 + 2^-1022 / 2, whose bits in every other mode are others. */
+MN_FUNCTION int mn_floats_ok(void)
+{
+    static const uint64_t expected[3] = {UINT64_C(0x3ff0000000000000), UINT64_C(0x3ff0000000000001), UINT64_C(0x0008000000000001)};
+    const struct mn_cosines rows = {{{1, 1.1102230246251565e-16, 0}, {1, 1.6653345369377348e-16, 0}, {4.9406564584124654e-324, 0, 2.2250738585072014e-308}}};
+    const double target[3] = {1, 1, 0.5};
+    double turned[3];
+    const unsigned char *found = (const unsigned char *)turned;
+    const unsigned char *wanted = (const unsigned char *)expected;
+    size_t k;
+    mn_turned(&rows, target, turned);
+    for (k = 0; k < sizeof expected; k++)
+        if (found[k] != wanted[k])
+            return 0;
+    return 1;
+}
+
 /* The whole chain: the frame's list, a direction for every listed position, their ranking, the search over it, the attitude. The ranking room needs MN_ROOM
  * words; the ranking is left in it, with 13 and 14 too. Settings: all. Refusals: 1, 2, 3, 4, 19, 5, 6, 7, 9, 10, 12, 13, 14. */
 MN_FUNCTION struct mn_refusal mn_chain(const uint16_t *samples, size_t samples_len, const struct mn_settings *settings, const uint8_t *catalogue,

@@ -10,13 +10,13 @@ use Rattle.burst_records.specs.Record.{recordSize}
 use Rattle.tracker.specs.declared.Settings.{Settings}
 use Rattle.tracker.specs.Chain as plain
 use Rattle.tracker.specs.Alike as chain
-use Rattle.burst.specs.Burst.{bytesOf, recordsOf, roomBehind, call, framesIn, frames, refusalsOf, burstOf, recordsAfter, roomAfter}
+use Rattle.burst.specs.Burst.{recordBytes, recordsOf, roomBehind, call, framesIn, frames, refusalsOf, burstOf, recordsAfter, roomAfter}
 
 module _ {first second : List ℕ} (a : Alike first second) (s : Settings) where
   records-alike : (fs : List (List ℕ)) (room : List ℕ) → recordsOf first s fs room ≡ recordsOf second s fs room
   unfolding recordsOf
   records-alike [] room = refl
-  records-alike (f ∷ fs) room = (λ j. bytesOf (chain.chain-same a f s room j) ++ records-alike fs room j)
+  records-alike (f ∷ fs) room = (λ j. recordBytes (chain.chain-same a f s room j) ++ records-alike fs room j)
 
   room-alike : (fs : List (List ℕ)) (room : List ℕ) → roomBehind first s fs room ≡ roomBehind second s fs room
   unfolding roomBehind

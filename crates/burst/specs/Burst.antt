@@ -31,14 +31,14 @@ framesOf size samples (suc n) = framesOf size samples n ++ (frameAt size samples
 -- ---- what the single calls give
 
 -- the bytes of the record that an answer of the chain gets
-abbrev pub bytesOf : Tracked → List ℕ
-bytesOf t = encoded (recordOf (t .outcome) (t .matrix))
+abbrev pub recordBytes : Tracked → List ℕ
+recordBytes t = encoded (recordOf (t .outcome) (t .matrix))
 
 module _ (catalogue : List ℕ) (s : Settings) where
   -- the records of some frames: of each what the single call gives for it, whatever the others hold
   unfoldable pub recordsOf : List (List ℕ) → List ℕ → List ℕ
   recordsOf [] room = []
-  recordsOf (f ∷ fs) room = bytesOf (trackedOf (chain.call f catalogue s room)) ++ recordsOf fs room
+  recordsOf (f ∷ fs) room = recordBytes (trackedOf (chain.call f catalogue s room)) ++ recordsOf fs room
 
   -- the ranking room after the single calls in order
   unfoldable pub roomBehind : List (List ℕ) → List ℕ → List ℕ

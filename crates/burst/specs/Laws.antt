@@ -32,7 +32,7 @@ use Rattle.tracker.specs.RoomLaws.{any-room}
 use Rattle.tracker.specs.BoundLaws.{Low, tracked-low, tracked-within}
 use Rattle.burst.specs.declared.Burst.{Burst}
 use Rattle.burst.specs.declared.Burst.the-variants.{Refused, Records}
-use Rattle.burst.specs.Burst.{frameAt, framesOf, bytesOf, recordsOf, roomBehind, Call, sizeOf, framesIn, frames, refusalsOf, burstOf, recordsAfter, roomAfter}
+use Rattle.burst.specs.Burst.{frameAt, framesOf, recordBytes, recordsOf, roomBehind, Call, sizeOf, framesIn, frames, refusalsOf, burstOf, recordsAfter, roomAfter}
 use Rattle.burst.specs.OneMore.{frames-length, bytes-length, records-length}
 use Rattle.burst.specs.Admit.{none-refused}
 
@@ -60,15 +60,15 @@ frame-of size samples (suc n) k h = go (decLt k n) (frame-of size samples n k)
 
 -- record k of some frames is that of frame k alone
 record-of : (catalogue : List ℕ) (s : Settings) (fs : List (List ℕ)) (room rest : List ℕ) (k : ℕ) → k < length fs
-    → take recordSize (drop (recordSize * k) (recordsOf catalogue s fs room ++ rest)) ≡ bytesOf (trackedOf (chain.call (getD fs k []) catalogue s room))
+    → take recordSize (drop (recordSize * k) (recordsOf catalogue s fs room ++ rest)) ≡ recordBytes (trackedOf (chain.call (getD fs k []) catalogue s room))
 unfolding recordsOf
 record-of catalogue s [] room rest k h = absurd (not-suc-le-zero h)
 record-of catalogue s (f ∷ fs) room rest zero h =
     let t = trackedOf (chain.call f catalogue s room) in
-    ap (take recordSize) (append-assoc (bytesOf t) (recordsOf catalogue s fs room) rest) ∙ take-at (bytesOf t) (recordsOf catalogue s fs room ++ rest) recordSize (bytes-length t)
+    ap (take recordSize) (append-assoc (recordBytes t) (recordsOf catalogue s fs room) rest) ∙ take-at (recordBytes t) (recordsOf catalogue s fs room ++ rest) recordSize (bytes-length t)
 record-of catalogue s (f ∷ fs) room rest (suc k) h =
     let t = trackedOf (chain.call f catalogue s room) in
-    let b = bytesOf t in
+    let b = recordBytes t in
     let l = recordsOf catalogue s fs room ++ rest in
     let e : recordSize * suc k ≡ length b + recordSize * k = omega (arith, bytes-length t) in
     (λ i. take recordSize (drop (e i) (append-assoc b (recordsOf catalogue s fs room) rest i)))
@@ -132,12 +132,12 @@ module _ (c : Call) (h : lowest (refusalsOf c) ≡ outcome.Accepted) where
     abbrev single : Tracked
     single = trackedOf (chain.call (frameAt (sizeOf c) (c .samples) k) (c .catalogue) (c .settings) room)
 
-    pub record-at : take recordSize (drop (recordSize * k) (recordsAfter c)) ≡ bytesOf single
+    pub record-at : take recordSize (drop (recordSize * k) (recordsAfter c)) ≡ recordBytes single
     record-at =
         ap (λ (l : List ℕ). take recordSize (drop (recordSize * k) l)) accepted-records
         ∙ record-of (c .catalogue) (c .settings) (frames c) (c .room) _ k (omega (arith, frames-length (sizeOf c) (c .samples) (framesIn c)))
-        ∙ ap (λ (f : List ℕ). bytesOf (trackedOf (chain.call f (c .catalogue) (c .settings) (c .room)))) (frame-of (sizeOf c) (c .samples) (framesIn c) k inside)
-        ∙ ap bytesOf (any-room (frameAt (sizeOf c) (c .samples) k) (c .catalogue) (c .settings) (c .room) room (sym long))
+        ∙ ap (λ (f : List ℕ). recordBytes (trackedOf (chain.call f (c .catalogue) (c .settings) (c .room)))) (frame-of (sizeOf c) (c .samples) (framesIn c) k inside)
+        ∙ ap recordBytes (any-room (frameAt (sizeOf c) (c .samples) k) (c .catalogue) (c .settings) (c .room) room (sym long))
 
     -- and read again
     pub decoded-at : decoded (take recordSize (drop (recordSize * k) (recordsAfter c))) ≡ recordOf (single .outcome) (single .matrix)

@@ -13,9 +13,9 @@ use Rattle.tracker.specs.declared.Tracked.{Tracked}
 use Rattle.tracker.specs.Chain as chain
 use Rattle.tracker.specs.Chain.{trackedOf}
 use Rattle.tracker.specs.RoomLaws as chain-room
-use Rattle.burst.specs.Burst.{frameAt, framesOf, bytesOf, recordsOf, roomBehind}
+use Rattle.burst.specs.Burst.{frameAt, framesOf, recordBytes, recordsOf, roomBehind}
 
-pub bytes-length : (t : Tracked) → length (bytesOf t) ≡ recordSize
+pub bytes-length : (t : Tracked) → length (recordBytes t) ≡ recordSize
 bytes-length t = encoded-length (recordOf (t .outcome) (t .matrix))
 
 module _ (catalogue : List ℕ) (s : Settings) where
@@ -29,12 +29,12 @@ module _ (catalogue : List ℕ) (s : Settings) where
   room-more [] f room = refl
   room-more (g ∷ gs) f room = room-more gs f (chain.roomAfter (chain.call g catalogue s room))
 
-  records-more : (fs : List (List ℕ)) (f room : List ℕ) → recordsOf catalogue s (fs ++ (f ∷ [])) room ≡ recordsOf catalogue s fs room ++ bytesOf (trackedOf (chain.call f catalogue s room))
+  records-more : (fs : List (List ℕ)) (f room : List ℕ) → recordsOf catalogue s (fs ++ (f ∷ [])) room ≡ recordsOf catalogue s fs room ++ recordBytes (trackedOf (chain.call f catalogue s room))
   unfolding recordsOf
-  records-more [] f room = append-nil (bytesOf (trackedOf (chain.call f catalogue s room)))
+  records-more [] f room = append-nil (recordBytes (trackedOf (chain.call f catalogue s room)))
   records-more (g ∷ gs) f room =
-      let b = bytesOf (trackedOf (chain.call g catalogue s room)) in
-      ap (λ (l : List ℕ). b ++ l) (records-more gs f room) ∙ sym (append-assoc b (recordsOf catalogue s gs room) (bytesOf (trackedOf (chain.call f catalogue s room))))
+      let b = recordBytes (trackedOf (chain.call g catalogue s room)) in
+      ap (λ (l : List ℕ). b ++ l) (records-more gs f room) ∙ sym (append-assoc b (recordsOf catalogue s gs room) (recordBytes (trackedOf (chain.call f catalogue s room))))
 
   -- what stands in the two rooms behind some frames
   pub record Behind (fs : List (List ℕ)) (before room records : List ℕ) : Type 0 where
@@ -43,12 +43,12 @@ module _ (catalogue : List ℕ) (s : Settings) where
 
   -- one frame more, with the room as the frames before it left it: its record comes behind theirs
   pub one-more : (fs : List (List ℕ)) (f before room records : List ℕ) → Behind fs before room records
-      → Behind (fs ++ (f ∷ [])) before (chain.roomAfter (chain.call f catalogue s room)) (records ++ bytesOf (trackedOf (chain.call f catalogue s room)))
+      → Behind (fs ++ (f ∷ [])) before (chain.roomAfter (chain.call f catalogue s room)) (records ++ recordBytes (trackedOf (chain.call f catalogue s room)))
   one-more fs f before room records h =
       let same = chain-room.any-room f catalogue s room before (ap length (h .ranked) ∙ room-kept fs before) in
       record {
         ranked = ap (λ (r : List ℕ). chain.roomAfter (chain.call f catalogue s r)) (h .ranked) ∙ sym (room-more fs f before);
-        written = (λ i. h .written i ++ bytesOf (same i)) ∙ sym (records-more fs f before);
+        written = (λ i. h .written i ++ recordBytes (same i)) ∙ sym (records-more fs f before);
       }
 
   pub records-length : (fs : List (List ℕ)) (room : List ℕ) → length (recordsOf catalogue s fs room) ≡ recordSize * length fs
@@ -56,7 +56,7 @@ module _ (catalogue : List ℕ) (s : Settings) where
   records-length [] room = refl
   records-length (f ∷ fs) room =
       let t = trackedOf (chain.call f catalogue s room) in
-      omega (arith, length-append (bytesOf t) (recordsOf catalogue s fs room), bytes-length t, records-length fs room)
+      omega (arith, length-append (recordBytes t) (recordsOf catalogue s fs room), bytes-length t, records-length fs room)
 
 -- ---- the same as the code meets it: the records so far stand first in the lent room
 
@@ -85,12 +85,12 @@ module _ (catalogue : List ℕ) (s : Settings) (size : ℕ) (samples before lent
   none-passed = record { ranked = refl; written = refl }
 
   passed-next : (k : ℕ) (room records : List ℕ) → recordSize * k + recordSize ≤ length lent → Passed k room records
-      → Passed (suc k) (chain.roomAfter (chain.call (frameAt size samples k) catalogue s room)) (sets records (recordSize * k) (bytesOf (trackedOf (chain.call (frameAt size samples k) catalogue s room))))
+      → Passed (suc k) (chain.roomAfter (chain.call (frameAt size samples k) catalogue s room)) (sets records (recordSize * k) (recordBytes (trackedOf (chain.call (frameAt size samples k) catalogue s room))))
   unfolding framesOf
   passed-next k room records h p =
       let fs = framesOf size samples k in
       let t = trackedOf (chain.call (frameAt size samples k) catalogue s room) in
-      let b = bytesOf t in
+      let b = recordBytes t in
       let so-far = recordsOf catalogue s fs before in
       let n : length b ≡ recordSize = bytes-length t in
       let l : length so-far ≡ recordSize * k = records-length catalogue s fs before ∙ ap (λ (m : ℕ). recordSize * m) (frames-length size samples k) in
@@ -103,5 +103,5 @@ module _ (catalogue : List ℕ) (s : Settings) (size : ℕ) (samples before lent
 
   -- the next number as the code has it
   pub passed-more : (k : ℕ) (room records : List ℕ) → recordSize * k + recordSize ≤ length lent → Passed k room records
-      → Passed (k + 1) (chain.roomAfter (chain.call (frameAt size samples k) catalogue s room)) (sets records (recordSize * k) (bytesOf (trackedOf (chain.call (frameAt size samples k) catalogue s room))))
+      → Passed (k + 1) (chain.roomAfter (chain.call (frameAt size samples k) catalogue s room)) (sets records (recordSize * k) (recordBytes (trackedOf (chain.call (frameAt size samples k) catalogue s room))))
   passed-more k room records h p = rw add-one (passed-next k room records h p)

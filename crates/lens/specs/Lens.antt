@@ -16,7 +16,7 @@ use Rattle.lens.specs.declared.Focal.the-variants.{Refused, Whole}
 
 -- q: the focal length in pixels
 abbrev pub pixelsOf : Lens → Float
-pixelsOf (Millimetres length pitch) = div binary64 (mul binary64 length (ofInt binary64 (pos 1000))) pitch
+pixelsOf (Millimetres focal pitch) = div binary64 (mul binary64 focal (ofInt binary64 (pos 1000))) pitch
 pixelsOf (Pixels q) = q
 
 -- 0 < x: an infinity may be, a NaN is not
@@ -25,7 +25,7 @@ aboveZero x = lt (fin false 0 (pos 0)) x
 
 -- every number that is given is above zero
 abbrev pub allAbove : Lens → Bool
-allAbove (Millimetres length pitch) = aboveZero length && aboveZero pitch
+allAbove (Millimetres focal pitch) = aboveZero focal && aboveZero pitch
 allAbove (Pixels q) = aboveZero q
 
 -- 16,384 ≤ 256 q < 4,194,305, of the number q itself, with nothing rounded

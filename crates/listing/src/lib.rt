@@ -8,7 +8,7 @@ ghost use Prim.Native.Nat.{_≤_};
 ghost use Rattle.text.specs.Room.{roomWith, lengthIn};
 ghost use Rattle.text.specs.Written.{Wrote};
 ghost use Rattle.listing.specs.Listing.{early, Refuses, Finds, chainOn, samplesIn, acceptedText, refusedText, answerText, textOf, listingText, roomSize};
-ghost use Rattle.listing.specs.Listing.{early, found as wordsFound};
+ghost use Rattle.listing.specs.Listing.{found as wordsFound};
 
 // The bytes that a room for any listing has.
 pub const ROOM: usize = 2048;

@@ -1,4 +1,5 @@
--- A call's refusals: of the numbers that apply, the lowest is given. A call lists its rows in rising number. Assumes nothing.
+-- A call's refusals: the first of its rows that applies is given. A call lists its rows by number, but for 19, which stands before 5, and 17, which
+-- stands before 8. Assumes nothing.
 use mathlib.Core.Bool.{Bool, true, false, cond}
 use mathlib.Core.Path.{_≡_}
 use mathlib.Core.List.{List, [], _∷_}

@@ -10,7 +10,7 @@ use Rattle.refusal.specs.Answer.{answerOf}
 use Rattle.tracker.specs.declared.Tracked.{Tracked}
 use Rattle.tracker.specs.Chain.{call, trackedOf, roomAfter}
 use Rattle.tracker.specs.BoundLaws.{tracked-low}
-use Rattle.burst.specs.Burst.{frameAt, bytesOf}
+use Rattle.burst.specs.Burst.{frameAt, recordBytes}
 use Rattle.burst.specs.Admit.{frame-fits}
 use Rattle.burst.specs.OneMore.{Passed, none-passed, passed-more}
 use Rattle.burst.proofs.track_frames.Statement.{statement}
@@ -108,7 +108,7 @@ loop-again c =
       search needs,
       record {
         ranked = t .track .ensures .1 .0 ∙ ap (λ (f : List ℕ). roomAfter (call f (a .catalogue .now) (a .settings) room)) (lent l) ∙ next .ranked;
-        written = p .put .ensures ∙ ap (λ (x : Tracked). sets records (80 * k) (bytesOf x)) tracked ∙ next .written;
+        written = p .put .ensures ∙ ap (λ (x : Tracked). sets records (80 * k) (recordBytes x)) tracked ∙ next .written;
       },
     )
 
