@@ -1,21 +1,20 @@
 -- Heron's rule at 64 bits: where it starts, that its numbers fit a word, and what three steps leave. Assumes nothing.
-use mathlib.Core.Path.{_≡_, sym, ap, _∙_}
-use Prim.Native.Nat.{ℕ, suc, _+_, _-_, _*_, _/_, _%_, _^_, _≤_, _<_}
+use mathlib.Core.Path.{_≡_, refl, sym, ap, _∙_}
+use Prim.Native.Nat.{ℕ, zero, suc, _+_, _-_, _*_, _/_, _%_, _^_, _≤_, _<_}
 use native.Mathlib.Nat.{lt-of-lt-of-le, lt-of-le-of-lt, mul-add, add-mul, mul-assoc, mul-left-comm, mul-le-mul, mul-le-mul-left, mul-le-mul-right}
 use native.Mathlib.Nat.{le-of-mul-le-mul-left, div-lt-iff-lt-mul, pow-suc}
 use native.Mathlib.Decide.{decLe}
 use native.Mathlib.Omega.{arith}
 use lib.Count.{leadingZeros, leading-top}
+use borrow.Author.Tests.{le-leb, lt-leb}
 use lib.Dec.{lit<}
 use lib.Pow.{pow-add, pow-mono, pow-pos, shl-exact}
-use Rattle.numbers.specs.Root.{Root, square-next}
+use Rattle.numbers.specs.Root.{Root, root, root-is, root-of, square-root, square-next}
 use Rattle.numbers.specs.Near.{Near}
-use Rattle.numbers.proofs.Heron.{side-lt, accuracy}
+use Rattle.numbers.specs.Steps.{half, guess, steps, settle}
+use Rattle.numbers.proofs.Heron.{side-lt, first, closer, accuracy, accuracy-least}
 
 -- ---- the start: the power of two at half of n's length
-
-abbrev pub half : ℕ → ℕ
-half n = (64 - leadingZeros 64 n) / 2
 
 -- its square is from n / 2 to 2 * n
 pub record Half (n h : ℕ) : Type 0 where
@@ -92,3 +91,35 @@ module _ {n s : ℕ} (root : Root n s) (fits : n < 2 ^ 64) (one : 1 ≤ s) where
         is-root = λ h. record { below = omega (arith, square, h); above = lt-of-lt-of-le (root .above) (mul-le-mul above above) };
         one-more = λ h. omega (arith, side-lt {a = s} {b = x} (omega (arith, square, h, root .below)));
       }
+
+-- ---- the guess after k steps
+
+module _ {n : ℕ} (positive : 0 < n) (fits : n < 2 ^ 64) where
+  pub root-positive : 1 ≤ root n
+  root-positive = square-root (root-is n) (omega arith)
+
+  -- it is above the root by at most what k steps leave
+  pub steps-near : (k : ℕ) → Near (accuracy k) (root n) (steps k n (guess n))
+  unfolding accuracy steps
+  steps-near zero = let h = half-is positive fits in first (root-is n) (pow-pos (half n)) (h .most) (h .least)
+  steps-near (suc k) = closer (accuracy-least k) root-positive (root-is n) (steps-near k)
+
+  -- a word holds the sum from which the next is made
+  pub sum-after : (k : ℕ) → steps k n (guess n) + n / steps k n (guess n) < 2 ^ 64
+  sum-after k = step-held (root-is n) fits root-positive (accuracy-least k) (steps-near k)
+
+  -- after three it is the root or one more
+  pub three : Settled n (root n) (steps 3 n (guess n))
+  three = settled (root-is n) fits root-positive (steps-near 3)
+
+-- the square less 1 tells what the square does
+pub kept : (n x : ℕ) → 1 ≤ x → (x - 1) * (x + 1) < n → x ≡ settle n x
+kept n x h k = rw (le-leb (x * x) n (omega (arith, square-less x h))) refl
+
+pub lowered : (n x : ℕ) → 1 ≤ x → n ≤ (x - 1) * (x + 1) → x - 1 ≡ settle n x
+lowered n x h k = rw (lt-leb (x * x) n (omega (arith, square-less x h))) refl
+
+-- the root of 0 takes no step
+pub root-of-none : 0 ≡ settle 0 (steps 0 0 (guess 0))
+unfolding steps leadingZeros
+root-of-none = refl

@@ -5,3 +5,4 @@ pub mod Num
 pub mod Order
 pub mod Root
 pub mod Near
+pub mod Steps

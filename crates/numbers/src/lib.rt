@@ -4,7 +4,7 @@ ghost use Prim.Native.Nat.{_≤_, _<_};
 ghost use lib.Dec.{leb};
 ghost use lib.IntN.{natAbs};
 ghost use Rattle.numbers.specs.Root.{root as rootOf};
-ghost use Rattle.numbers.specs.Near.{Near};
+ghost use Rattle.numbers.specs.Steps.{guess, steps, settle};
 
 // The size of x. The least number has one too: it is moved up by one before its sign is turned.
 pub fn abs(x: i64) -> u64
@@ -24,6 +24,9 @@ pub fn within(x: i64, bound: u64) -> bool
     abs(x) <= bound
 }
 
+// How many passes the root takes. T-02 asks for at most 16; after three the guess is the root or one more.
+const PASSES: u64 = 3;
+
 // A root, and the number of passes through the loop that found it.
 struct Rooted {
     root: u64,
@@ -33,36 +36,42 @@ struct Rooted {
 // The mean of the power of two at half of n's length and of n divided by it: at most a twelfth of the root, and 3 / 2, above the root.
 fn first_guess(n: u64) -> u64
     requires { ⌜ 0 < n ⌝ }
-    ensures { λ r. ⌜ Near 12 (rootOf n) r ⌝ }
+    ensures { λ r. ⌜ r ≡ guess n ⌝ }
 {
     let half = (64 - u64::leading_zeros(n)) / 2;
     ((1u64 << half) + (n >> half)) / 2
 }
 
-// The root of n by Heron's rule. A pass about doubles the number of right digits, so that after three the guess is the root or one more.
+// The guess after so many passes through the loop, the only one: each is a step of Heron's rule, which about doubles the number of right digits.
+fn guess_after(n: u64, passes: u64) -> u64
+    requires { ⌜ 0 < n ⌝ }
+    ensures { λ r. ⌜ r ≡ steps passes n (guess n) ⌝ }
+{
+    let mut x = first_guess(n);
+    for _ in 0..passes {
+        x = (x + n / x) / 2;
+    }
+    x
+}
+
+// The root of n by Heron's rule, and the passes that it took.
 fn root_in_passes(n: u64) -> Rooted
-    ensures { λ r. ⌜ (r .root ≡ rootOf n) × (r .passes ≤ 3) ⌝ }
+    ensures { λ r. ⌜ (r .root ≡ rootOf n) × (r .root ≡ settle n (steps (r .passes) n (guess n))) × (r .passes ≤ 16) ⌝ }
 {
     if n == 0 {
         return Rooted { root: 0, passes: 0 };
     }
-    let mut guess = first_guess(n);
-    let mut passes: u64 = 0;
-    while passes < 3 {
-        guess = (guess + n / guess) / 2;
-        passes += 1;
-    }
+    let x = guess_after(n, PASSES);
     // the square of the guess, less 1, fits where the square may not
-    if (guess - 1) * (guess + 1) < n {
-        Rooted {
-            root: guess,
-            passes,
-        }
-    } else {
-        Rooted {
-            root: guess - 1,
-            passes,
-        }
+    if (x - 1) * (x + 1) < n {
+        return Rooted {
+            root: x,
+            passes: PASSES,
+        };
+    }
+    Rooted {
+        root: x - 1,
+        passes: PASSES,
     }
 }
 

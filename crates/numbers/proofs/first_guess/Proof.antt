@@ -1,10 +1,8 @@
 -- `numbers::first_guess` meets its contract: it makes one step of Heron's rule from the power of two at half of n's length. Assumes nothing.
 use borrow.Author.Needs.{needs}
 use lib.Count.{leading-le}
-use lib.Pow.{pow-pos}
-use Rattle.numbers.specs.Root.{root-is}
-use Rattle.numbers.proofs.Heron.{first}
-use Rattle.numbers.proofs.Word.{Half, half, half-is, power-held, sum-held}
+use Rattle.numbers.specs.Steps.{half}
+use Rattle.numbers.proofs.Word.{Half, half-is, power-held, sum-held}
 use Rattle.numbers.proofs.first_guess.Statement.{statement}
 use Rattle.numbers.proofs.first_guess.Tie as tie
 
@@ -30,9 +28,7 @@ add-result : tie.Need-add-result
 add-result c = rw (power-held (halved c)) (record { fits = sum-held (halved c) })
 
 returns : tie.Need-returns
-returns c =
-    let h = halved c in
-    rw (power-held h) (first (root-is (c .args .n)) (pow-pos (half (c .args .n))) (h .most) (h .least))
+returns c = rw (power-held (halved c))
 
 pub first-guess-spec : {M : Type 1} → statement M
 first-guess-spec = tie.close (tie.spec sub-half cast-result shl-result cast-result-2 shr-result add-result returns)
