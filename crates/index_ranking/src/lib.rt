@@ -3,17 +3,38 @@ use catalogue::Checked;
 use refusal::Outcome;
 ghost use mathlib.Core.Path.{_≡_};
 ghost use mathlib.Core.List.{_++_};
-ghost use Prim.Native.Nat.{_*_, _≤_};
+ghost use Prim.Native.Nat.{_*_, _<_, _≤_};
 ghost use lib.ListN.{length, drop};
 ghost use Rattle.refusal.specs.Answer.{answerOf};
 ghost use Rattle.vectors.specs.Triples.{triples, Listed};
-ghost use Rattle.ranking.specs.Ranking.{rankingOf};
+ghost use Rattle.ranking.specs.Ranking.{rowOf, rankingOf};
 ghost use Rattle.catalogue.specs.Stars.{starsOf};
 ghost use Rattle.index.specs.Index.{bytesFrom, indexOf};
 ghost use Rattle.index_ranking.specs.Call.{call, outcomeOf, roomAfter, answerFor};
 ghost use Rattle.index_ranking.specs.Stars.{outcomeFrom, roomFrom};
 
-// The ranking of decoded stars with their index, whose floor is moved up by 2^63.
+// One row: the votes for direction i are collected with the index, whose floor is moved up by 2^63, and the stars ranked by them.
+fn write_row(
+    directions: &[i32],
+    stars: &[i32],
+    tolerance: u64,
+    i: usize,
+    index: &[u8],
+    floor: u64,
+    row: &mut [u16],
+)
+    requires { ⌜ Listed 8 (now directions) ⌝ }
+    requires { ⌜ Listed 512 (now stars) ⌝ }
+    requires { ⌜ (i < triples (now directions)) × (length (now row) ≡ triples (now stars)) ⌝ }
+    requires { ⌜ tolerance ≤ 10000000000000000 ⌝ }
+    requires { ⌜ now index ≡ bytesFrom (now stars) floor ⌝ }
+    ensures { λ r. ⌜ now (row .exit) ≡ rowOf (now (directions .entry)) (now (stars .entry)) tolerance i ⌝ }
+{
+    let votes = index_votes::votes_for(directions, stars, tolerance, i, index, floor);
+    row::write(&votes, row);
+}
+
+// The ranking of decoded stars. Each row has its own stretch of the room.
 fn write_ranking(
     directions: &[i32],
     stars: &[i32],
@@ -29,9 +50,23 @@ fn write_ranking(
     requires { ⌜ now index ≡ bytesFrom (now stars) floor ⌝ }
     ensures { λ r. ⌜ now (room .exit) ≡ rankingOf (now (directions .entry)) (now (stars .entry)) tolerance ++ drop (triples (now (directions .entry)) * triples (now (stars .entry))) (now (room .entry)) ⌝ }
 {
-    let mut votes = [0u32; 4096];
-    index_votes::count_votes(directions, stars, tolerance, index, floor, &mut votes);
-    ranking::write_rows(&votes, directions.len() / 3, stars.len() / 3, room);
+    let count = directions.len() / 3;
+    let words = stars.len() / 3;
+    let mut i: usize = 0;
+    while i < count {
+        let from = i * words;
+        let to = from + words;
+        write_row(
+            directions,
+            stars,
+            tolerance,
+            i,
+            index,
+            floor,
+            &mut room[from..to],
+        );
+        i += 1;
+    }
 }
 
 // The ranking of decoded stars with their own index, or the lowest of 8, 9 and 10.

@@ -1,49 +1,56 @@
 -- The votes for a direction as a sum over the other directions, each by a span around its dot product. Assumes nothing.
-use mathlib.Core.Bool.{Bool, true, false, cond, _&&_}
+use mathlib.Core.Bool.{Bool, true, false, cond, not, _&&_}
 use mathlib.Core.Path.{_≡_, refl, sym, ap, _∙_}
 use mathlib.Core.List.{List}
-use Prim.Native.Nat.{ℕ, zero, suc, _+_, _/_, _≤_, _<_}
+use Prim.Native.Nat.{ℕ, zero, suc, _+_, _*_, _-_, _/_, _≤_, _<_}
 use native.Mathlib.Decide.{ℕ-discrete, decLt}
 use native.Mathlib.Omega.{arith}
-use borrow.Author.Tests.{lt-ltb, le-ltb}
-use lib.Dec.{ltb}
+use borrow.Author.Tests.{lt-ltb, le-ltb, eq-eqb, ne-eqb}
+use lib.Dec.{ltb, eqb}
 use lib.IntN.{ℤ, pos, negsuc}
 use lib.ListN.{length, getD}
+use lib.Seq.{ext-getD}
+use mir.Syntax.{w64}
+use mir.Val.{SFits}
 use Rattle.numbers.specs.Within.{Within}
 use Rattle.vectors.specs.Triples.{triples, Listed, pairDot}
 use Rattle.vectors.specs.Agree.{agreeing}
-use Rattle.vectors.specs.Laws.{pair-comm}
+use Rattle.vectors.specs.Laws.{pair-within}
 use Rattle.counting.specs.Number.{one, number, pairs}
 use Rattle.counting.specs.NumberLaws.{number-none, number-most}
 use Rattle.votes.specs.Votes.{other, isVote, votesOf, countersOf}
-use Rattle.votes.specs.Laws.{counter-within, counter-beyond}
-use Rattle.votes.specs.Sums.{sumTo, sum-same, sum-bound, number-sum}
-use Rattle.votes.specs.Each.{each-pair}
-use Rattle.index_records.specs.Format.{highAt, encoded}
+use Rattle.votes.specs.Laws.{counters-length, counter-within, counter-beyond}
+use Rattle.index_records.specs.Format.{highAt, lowAt, keyAt, encoded}
 use Rattle.index_records.specs.Order.{sorted}
 use Rattle.index_records.specs.Read.{Bytes, low-most}
 use Rattle.index.specs.Raised.{raised}
 use Rattle.index.specs.Index.{pairsOf}
 use Rattle.index.specs.IndexSteps.{pairs-most}
+use Rattle.index.specs.KeyLaws.{dot-fits}
 use Rattle.index.specs.Check.{RecordOk}
 use Rattle.index.specs.CheckLaws.{index-size, ok-all}
-use Rattle.index_votes.specs.Span.{Usable}
-use Rattle.index_votes.specs.Both.{both, both-most}
-use Rattle.index_votes.specs.Pair.{pairVotes, plainVotes, dirVotes, rowAdds}
+use Rattle.index_votes.specs.Span.{sumTo, Usable}
+use Rattle.index_votes.specs.Pair.{pairVotes, plainVotes, dirVotes}
+use Rattle.index_votes.specs.Plain.{sum-same}
 
--- not many
-pub plain-most : (stars : List ℤ) (q : ℤ) (tolerance c : ℕ) → triples stars ≤ 512 → plainVotes stars q tolerance c ≤ 512
-unfolding plainVotes pairVotes
-plain-most stars q tolerance c h = go (ltb c (triples stars))
+module _ (directions stars : List ℤ) (tolerance i c j : ℕ) where
+  pub dir-self : j ≡ i → dirVotes directions stars tolerance i c j ≡ 0
+  unfolding dirVotes
+  dir-self e = rw (eq-eqb j i e)
+
+  pub dir-other : (j ≡ i → ⊥) → dirVotes directions stars tolerance i c j ≡ plainVotes stars (pairDot directions i j) tolerance c
+  unfolding dirVotes
+  dir-other d = rw (ne-eqb j i d)
+
+-- it adds not many
+pub dir-most : (directions stars : List ℤ) (tolerance i c j : ℕ) → triples stars ≤ 512 → dirVotes directions stars tolerance i c j ≤ 512
+unfolding dirVotes plainVotes pairVotes
+dir-most directions stars tolerance i c j h = go (other j i) (ltb c (triples stars))
   where
-    go : (t : Bool) → cond t (number (triples stars) (λ b. other b c && agreeing q (pairDot stars c b) tolerance)) 0 ≤ 512
-    go true = omega (arith, number-most (triples stars) (λ b. other b c && agreeing q (pairDot stars c b) tolerance))
-    go false = omega arith
-
-pub row-adds-most : (directions stars : List ℤ) (tolerance j d s : ℕ) → triples stars ≤ 512 → j ≤ 8 → rowAdds directions stars tolerance j d s ≤ 8192
-unfolding rowAdds
-row-adds-most directions stars tolerance j d s h l =
-    omega (arith, sum-bound 1024 j (λ i. both j i (plainVotes stars (pairDot directions j i) tolerance) d s) (λ i m. both-most j i d s 512 (plainVotes stars (pairDot directions j i) tolerance) (plain-most stars (pairDot directions j i) tolerance s h)))
+    go : (s t : Bool) → cond s (cond t (number (triples stars) (λ b. other b c && agreeing (pairDot directions i j) (pairDot stars c b) tolerance)) 0) 0 ≤ 512
+    go true true = omega (arith, number-most (triples stars) (λ b. other b c && agreeing (pairDot directions i j) (pairDot stars c b) tolerance))
+    go true false = omega arith
+    go false t = omega arith
 
 -- ---- numbers
 
@@ -92,6 +99,11 @@ unfolding sumTo
 sum-zero zero = refl
 sum-zero (suc n) = omega (arith, sum-zero n)
 
+number-sum : (n : ℕ) (test : ℕ → Bool) → number n test ≡ sumTo n (λ k. one (test k))
+unfolding number sumTo
+number-sum zero test = refl
+number-sum (suc n) test = omega (arith, number-sum n test)
+
 pairs-swap : (m n : ℕ) (test : ℕ → ℕ → Bool) → pairs m n test ≡ sumTo m (λ j. number n (test j))
 unfolding pairs number
 pairs-swap m zero test = sym (sum-zero m)
@@ -132,12 +144,7 @@ module _ (directions stars : List ℤ) (tolerance i : ℕ) where
             ∙ sum-zero (triples directions)
             ∙ sym (counter-beyond directions stars tolerance i c (omega arith) h)
 
-    -- each pair of directions adds to both
-    pub all-added : i < triples directions → (s : ℕ) → s < 512 → sumTo (triples directions) (λ j. rowAdds directions stars tolerance j i s) ≡ getD (countersOf directions stars tolerance i) s 0
-    unfolding rowAdds both dirVotes
-    all-added h s l =
-        each-pair w i (λ j k. ap (λ (q : ℤ). plainVotes stars q tolerance s) (pair-comm directions j k)) (triples directions)
-        ∙ rw (lt-ltb i (triples directions) h) (counter s l)
-      where
-        w : ℕ → ℕ → ℕ
-        w j k = plainVotes stars (pairDot directions j k) tolerance s
+    pub counters-are : (votes : List ℕ) → length votes ≡ 512 → ((c : ℕ) → getD votes c 0 ≡ sumTo (triples directions) (dirVotes directions stars tolerance i c)) → votes ≡ countersOf directions stars tolerance i
+    counters-are votes e h =
+        ext-getD 0 votes (countersOf directions stars tolerance i) (e ∙ sym (counters-length directions stars tolerance i))
+        (λ c l. h c ∙ counter c (omega arith))

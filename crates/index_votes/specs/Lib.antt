@@ -1,5 +1,4 @@
 -- Votes from an index: the definitions that the contracts cite, and their laws.
-pub mod Both
 pub mod Pair
 pub mod Span
 pub mod SpanLaws

@@ -1,21 +1,19 @@
 -- The votes of one pair of directions by the plain rule, and what the part that reads the index alone promises. Assumes nothing.
-use mathlib.Core.Bool.{cond, _&&_}
+use mathlib.Core.Bool.{Bool, cond, _&&_}
 use mathlib.Core.Path.{_≡_}
 use mathlib.Core.List.{List}
-use Prim.Native.Nat.{ℕ, _-_, _≤_}
+use Prim.Native.Nat.{ℕ, _+_, _-_, _≤_}
 use lib.Dec.{ltb}
 use lib.IntN.{ℤ}
+use lib.ListN.{getD}
 use mir.Syntax.{w64}
 use mir.Val.{SFits}
 use Rattle.vectors.specs.Triples.{triples, Listed, pairDot}
 use Rattle.vectors.specs.Agree.{agreeing}
 use Rattle.counting.specs.Number.{number}
 use Rattle.votes.specs.Votes.{other}
-use Rattle.votes.specs.Sums.{sumTo}
-use Rattle.votes.specs.Counters.{Grown}
 use Rattle.index.specs.Raised.{raised}
 use Rattle.index.specs.Index.{bytesFrom}
-use Rattle.index_votes.specs.Both.{both}
 
 -- what a pair of directions with the dot product q gives to star c: how many other stars b there are whose pair with c agrees with it
 unfoldable pub pairVotes : List ℤ → ℤ → ℕ → ℕ → ℕ
@@ -29,14 +27,10 @@ plainVotes stars q tolerance c = cond (ltb c (triples stars)) (pairVotes stars q
 unfoldable pub dirVotes : List ℤ → List ℤ → ℕ → ℕ → ℕ → ℕ → ℕ
 dirVotes directions stars tolerance i c j = cond (other j i) (plainVotes stars (pairDot directions i j) tolerance c) 0
 
--- what direction j and each direction before it add to star s for direction d
-unfoldable pub rowAdds : List ℤ → List ℤ → ℕ → ℕ → ℕ → ℕ → ℕ
-rowAdds directions stars tolerance j d s = sumTo j (λ i. both j i (plainVotes stars (pairDot directions j i) tolerance) d s)
-
--- whichever stars and floor the index is right for: if the span of the pair does not begin below the floor, the directions i and j got the plain rule's votes
-pub record VotesAsPlain (index : List ℕ) (product tolerance i j : ℕ) (before after : List ℕ) : Type 0 where
+-- whichever stars and floor the index is right for: if the span of the pair does not begin below the floor, the plain rule's votes were added
+pub record VotesAsPlain (index : List ℕ) (product tolerance : ℕ) (before after : List ℕ) : Type 0 where
   pub added :
       (stars : List ℤ) (floor : ℕ) (q : ℤ)
       → Listed 512 stars → index ≡ bytesFrom stars floor
       → SFits w64 q → product ≡ raised q → floor ≤ product - tolerance
-      → Grown (both i j (plainVotes stars q tolerance)) before after
+      → (c : ℕ) → getD after c 0 ≡ getD before c 0 + plainVotes stars q tolerance c

@@ -1,23 +1,27 @@
 -- The votes that the records of an index in a span give. Assumes nothing.
 use mathlib.Core.Bool.{Bool, cond, _&&_}
 use mathlib.Core.List.{List}
-use Prim.Native.Nat.{ℕ, _/_, _%_, _≤_, _<_}
-use lib.Dec.{leb}
+use Prim.Native.Nat.{ℕ, zero, suc, _+_, _/_, _%_, _≤_, _<_}
+use lib.Dec.{leb, eqb}
 use lib.ListN.{length}
 use lib.IntN.{ℤ}
 use Rattle.vectors.specs.Triples.{triples, pairDot}
-use Rattle.votes.specs.Sums.{sumTo}
-use Rattle.votes.specs.Each.{either}
+use Rattle.counting.specs.Number.{one}
 use Rattle.index.specs.Raised.{raised}
 use Rattle.index_records.specs.Format.{highAt, lowAt}
 
 -- how often the ends of a pair name star c
 unfoldable pub named : ℕ → ℕ → ℕ
-named c ends = either c (ends / 65536) (ends % 65536)
+named c ends = one (eqb c (ends / 65536)) + one (eqb c (ends % 65536))
 
 -- what a record gives to star c: a vote for each end, if its dot product lies in the span
 unfoldable pub given : ℕ → ℕ → ℕ → ℕ → ℕ → ℕ
 given lower upper c high ends = cond (leb lower high && leb high upper) (named c ends) 0
+
+-- the sum of what f gives for 0 .. n - 1
+unfoldable pub sumTo : ℕ → (ℕ → ℕ) → ℕ
+sumTo zero f = 0
+sumTo (suc n) f = sumTo n f + f n
 
 -- what all records give
 unfoldable pub spanVotes : List ℕ → ℕ → ℕ → ℕ → ℕ
@@ -37,7 +41,7 @@ inSpan stars lower upper a b = leb lower (raised (pairDot stars a b)) && leb (ra
 
 -- what the pair of a and b gives to star c, by a test of pairs
 abbrev pub meets : (ℕ → ℕ → Bool) → ℕ → ℕ → ℕ → ℕ
-meets w c b a = cond (w a b) (either c a b) 0
+meets w c b a = cond (w a b) (one (eqb c a) + one (eqb c b)) 0
 
 -- what the pairs of star b with each star before it give
 unfoldable pub rowVotes : List ℤ → ℕ → ℕ → ℕ → ℕ → ℕ

@@ -1,18 +1,31 @@
 -- The votes of a span record by record. Assumes nothing.
 use mathlib.Core.Bool.{Bool, true, false, cond, _&&_, and-false}
-use mathlib.Core.Path.{_≡_}
-use mathlib.Core.List.{List}
+use mathlib.Core.Path.{_≡_, refl, sym, ap, _∙_}
+use mathlib.Core.List.{List, []}
 use Prim.Native.Nat.{ℕ, zero, suc, _+_, _*_, _/_, _%_, _≤_, _<_}
 use native.Mathlib.Decide.{ℕ-discrete}
+use native.Mathlib.Nat.{suc-mul}
+use native.Mathlib.Numerals.{add-one}
 use native.Mathlib.Omega.{arith}
-use borrow.Author.Tests.{le-leb, lt-leb}
-use lib.Dec.{leb}
+use borrow.Author.Tests.{le-leb, lt-leb, eq-eqb, ne-eqb}
+use lib.Dec.{leb, eqb}
 use lib.IntN.{ℤ}
+use lib.ListN.{length, getD, set, replicate, length-set, List·getD-eq-default}
+use lib.Seq.{getD-set-same, getD-set-other}
+use Rattle.counting.specs.Number.{one}
+use Rattle.counting.specs.NumberLaws.{one-most}
 use Rattle.vectors.specs.Triples.{pairDot}
-use Rattle.votes.specs.Sums.{sumTo, sum-bound}
-use Rattle.votes.specs.Each.{either, either-most}
 use Rattle.index.specs.Raised.{raised}
-use Rattle.index_votes.specs.Span.{named, given, inSpan, meets, rowVotes}
+use Rattle.index_votes.specs.Span.{named, given, sumTo, inSpan, meets, rowVotes}
+
+pub sum-next : (n : ℕ) (f : ℕ → ℕ) → sumTo (n + 1) f ≡ sumTo n f + f n
+unfolding sumTo
+sum-next n f = rw add-one
+
+pub sum-none : (n : ℕ) (f : ℕ → ℕ) → ((k : ℕ) → k < n → f k ≡ 0) → sumTo n f ≡ 0
+unfolding sumTo
+sum-none zero f h = refl
+sum-none (suc n) f h = omega (arith, sum-none n f (λ k l. h k (omega arith)), h n (omega arith))
 
 -- from m on none gives anything
 pub sum-rest : (m n : ℕ) (f : ℕ → ℕ) → m ≤ n → ((k : ℕ) → m ≤ k → k < n → f k ≡ 0) → sumTo n f ≡ sumTo m f
@@ -23,6 +36,11 @@ sum-rest m (suc n) f l h = go (ℕ-discrete m (suc n)) (λ k. sum-rest m n f k (
     go : Dec (m ≡ suc n) → (m ≤ n → sumTo n f ≡ sumTo m f) → sumTo (suc n) f ≡ sumTo m f
     go (yes e) i = rw e
     go (no d) i = omega (arith, i (omega arith), h n (omega arith) (omega arith))
+
+pub sum-most : (n m : ℕ) (f : ℕ → ℕ) → ((k : ℕ) → f k ≤ 2) → sumTo n f ≤ n + n
+unfolding sumTo
+sum-most zero m f h = omega arith
+sum-most (suc n) m f h = omega (arith, sum-most n m f h, h n)
 
 module _ (lower upper c high ends : ℕ) where
   pub given-in : lower ≤ high → high ≤ upper → given lower upper c high ends ≡ named c ends
@@ -39,7 +57,7 @@ module _ (lower upper c high ends : ℕ) where
 
   pub named-most : named c ends ≤ 2
   unfolding named
-  named-most = either-most c (ends / 65536) (ends % 65536)
+  named-most = omega (arith, one-most (eqb c (ends / 65536)), one-most (eqb c (ends % 65536)))
 
   pub given-most : given lower upper c high ends ≤ 2
   unfolding given
@@ -48,6 +66,23 @@ module _ (lower upper c high ends : ℕ) where
       go : (t : Bool) → cond t (named c ends) 0 ≤ 2
       go true = named-most
       go false = omega arith
+
+-- one more at place a
+pub raised-at : (l : List ℕ) (a c : ℕ) → a < length l → getD (set l a (getD l a 0 + 1)) c 0 ≡ getD l c 0 + one (eqb c a)
+raised-at l a c h = go (ℕ-discrete c a)
+  where
+    go : Dec (c ≡ a) → getD (set l a (getD l a 0 + 1)) c 0 ≡ getD l c 0 + one (eqb c a)
+    go (yes e) = rw (eq-eqb c a e, e) (getD-set-same l a (getD l a 0 + 1) 0 h)
+    go (no d) = rw (ne-eqb c a d) (getD-set-other l a c (getD l a 0 + 1) 0 d ∙ omega arith)
+
+pub sum-bound : (m n : ℕ) (f : ℕ → ℕ) → ((k : ℕ) → k < n → f k ≤ m) → sumTo n f ≤ n * m
+unfolding sumTo
+sum-bound m zero f h = omega arith
+sum-bound m (suc n) f h = omega (arith, sum-bound m n f (λ k l. h k (omega arith)), h n (omega arith), suc-mul n m)
+
+pub sum-empty : (x : ℕ) (f : ℕ → ℕ) → x ≡ x + sumTo 0 f
+unfolding sumTo
+sum-empty x f = omega arith
 
 -- ---- one pair of stars
 
@@ -63,15 +98,25 @@ module _ (stars : List ℤ) (lower upper c b a : ℕ) where
   meets-in h k p q =
       let x : (65536 * a + b) / 65536 ≡ a = omega arith in
       let y : (65536 * a + b) % 65536 ≡ b = omega arith in
-      rw (le-leb lower (raised (pairDot stars a b)) h, le-leb (raised (pairDot stars a b)) upper k) (λ i. either c (x i) (y i))
+      rw (le-leb lower (raised (pairDot stars a b)) h, le-leb (raised (pairDot stars a b)) upper k) (λ i. one (eqb c (x i)) + one (eqb c (y i)))
 
   pub meets-most : meets (inSpan stars lower upper) c b a ≤ 2
   meets-most = go (inSpan stars lower upper a b)
     where
-      go : (t : Bool) → cond t (either c a b) 0 ≤ 2
-      go true = either-most c a b
+      go : (t : Bool) → cond t (one (eqb c a) + one (eqb c b)) 0 ≤ 2
+      go true = omega (arith, one-most (eqb c a), one-most (eqb c b))
       go false = omega arith
 
 pub row-most : (stars : List ℤ) (lower upper c b : ℕ) → rowVotes stars lower upper c b ≤ b * 2
 unfolding rowVotes
 row-most stars lower upper c b = sum-bound 2 b _ (λ a h. meets-most stars lower upper c b a)
+
+-- counters of zero
+at-zeros : (n k : ℕ) → _≡_ {A = ℕ} (getD (replicate n 0) k 0) 0
+at-zeros zero k = List·getD-eq-default [] 0 {n = k} (omega arith)
+at-zeros (suc n) zero = refl
+at-zeros (suc n) (suc k) = at-zeros n k
+
+pub zeros-empty : (n k : ℕ) (f : ℕ → ℕ) → getD (replicate n 0) k 0 ≡ sumTo 0 f
+unfolding sumTo
+zeros-empty n k f = at-zeros n k

@@ -1,55 +1,59 @@
--- The rows of all directions by their counters, 512 a direction. Assumes nothing.
-use mathlib.Core.Path.{_≡_, refl, sym, _∙_}
-use mathlib.Core.List.{List, [], _++_}
-use Prim.Native.Nat.{ℕ, zero, suc, _*_, _≤_}
-use native.Mathlib.Nat.{suc-mul, zero-mul}
+-- Rows by the counters of their directions, written one after the other into a room. Assumes nothing.
+use mathlib.Core.Path.{_≡_}
+use mathlib.Core.List.{List, _++_, append-assoc}
+use Prim.Native.Nat.{ℕ, _+_, _*_, _-_, _≤_, _<_}
+use native.Mathlib.Nat.{suc-mul, zero-mul, mul-le-mul-right}
+use native.Mathlib.Numerals.{add-one}
 use native.Mathlib.Omega.{arith}
 use lib.IntN.{ℤ}
-use lib.ListN.{length, take, drop, length-append}
-use lib.Seq.{getD-take, getD-drop}
-use Rattle.sorting.specs.Order.{ordered}
+use lib.ListN.{length, take, drop, length-append, length-take, length-drop}
+use lib.Seq.{take-at, drop-append-add, drop-drop}
 use Rattle.sorting.specs.Laws.{ordered-ext}
 use Rattle.vectors.specs.Triples.{triples}
-use Rattle.votes.specs.Votes.{votesOf}
+use Rattle.votes.specs.Votes.{votesOf, countersOf}
 use Rattle.votes.specs.Laws.{counter-within}
-use Rattle.votes.specs.Counters.{counterAt, Counted}
 use Rattle.row.specs.Row.{every, votesAt, rowBy}
-use Rattle.ranking.specs.Ranking.{rowOf, rowsOf, rankingOf}
-use Rattle.row.specs.RowPlaces.{every-length}
+use Rattle.ranking.specs.Ranking.{rowOf, rowsOf}
+use Rattle.ranking.specs.Laws.{rows-length}
 
--- the row of direction i: the m stars by its counters
-unfoldable pub rowAt : List ℕ → ℕ → ℕ → List ℕ
-rowAt votes m i = ordered every (counterAt votes i) m
+-- the row by the counters of direction i is the row of direction i
+pub row-by-counters : (directions stars : List ℤ) (tolerance i m : ℕ) → m ≡ triples stars → triples stars ≤ 512
+    → rowBy (countersOf directions stars tolerance i) m ≡ rowOf directions stars tolerance i
+unfolding rowBy rowOf
+row-by-counters directions stars tolerance i m e most =
+    rw e
+    (ordered-ext every (votesAt (countersOf directions stars tolerance i)) (votesOf directions stars tolerance i) (triples stars)
+    (λ k h. counter-within directions stars tolerance i k h most))
 
--- the rows of the first n directions, one after the other
-unfoldable pub rowsBy : List ℕ → ℕ → ℕ → List ℕ
-rowsBy votes m zero = []
-rowsBy votes m (suc n) = rowsBy votes m n ++ rowAt votes m n
+-- a row has its place in the room
+pub row-fits : (d m i : ℕ) → i < d → i * m + m ≤ d * m
+row-fits d m i h = omega (arith, suc-mul i m, mul-le-mul-right m h)
 
--- a row by the 512 counters of direction i
-pub row-at : (votes : List ℕ) (m i : ℕ) → m ≤ 512 → rowBy (take 512 (drop (512 * i) votes)) m ≡ rowAt votes m i
-unfolding rowBy rowAt
-row-at votes m i h =
-    ordered-ext every (votesAt (take 512 (drop (512 * i) votes))) (counterAt votes i) m
-    (λ s l. getD-take 512 (drop (512 * i) votes) s 0 (omega arith) ∙ getD-drop (512 * i) votes s 0)
+pub mid-length : {A : Type 0} (room : List A) (a k : ℕ) → a + k ≤ length room → length (take k (drop a room)) ≡ k
+mid-length room a k h = simp (length-take, length-drop) (omega arith)
 
-pub rows-by-length : (votes : List ℕ) (m n : ℕ) → length (rowsBy votes m n) ≡ n * m
-unfolding rowsBy rowAt
-rows-by-length votes m zero = sym (zero-mul m)
-rows-by-length votes m (suc n) = length-append (rowsBy votes m n) _ ∙ rw (rows-by-length votes m n, every-length, suc-mul)
+-- a room keeps its length where a part of it is written
+pub back-length : {A : Type 0} (room part : List A) (a k : ℕ) → a + k ≤ length room → length part ≡ length (take k (drop a room)) → length (take a room ++ (part ++ drop k (drop a room))) ≡ length room
+back-length room part a k h e =
+    let m = mid-length room a k h in
+    simp (length-append, length-take, length-drop) (omega arith)
 
--- where the counters hold the votes, the rows are the ranking
-module _ (directions stars : List ℤ) (tolerance : ℕ) (votes : List ℕ) (c : Counted directions stars tolerance votes) (most : triples stars ≤ 512) where
-  rows-counted : (n : ℕ) → n ≤ triples directions → rowsBy votes (triples stars) n ≡ rowsOf directions stars tolerance n
-  unfolding rowsBy rowAt rowsOf rowOf
-  rows-counted zero h = refl
-  rows-counted (suc n) h =
-      rw (
-        rows-counted n (omega arith),
-        ordered-ext every (counterAt votes n) (votesOf directions stars tolerance n) (triples stars) (λ s l.
-            c .each n s (omega arith) (omega arith) ∙ counter-within directions stars tolerance n s l most),
-      )
+module _ (directions stars : List ℤ) (tolerance : ℕ) (first : List ℕ) where
+  abbrev rows : ℕ → List ℕ
+  rows = rowsOf directions stars tolerance
 
-  pub ranking-counted : rowsBy votes (triples stars) (triples directions) ≡ rankingOf directions stars tolerance
-  unfolding rankingOf
-  ranking-counted = rows-counted (triples directions) (omega arith)
+  pub rows-none : first ≡ rows 0 ++ drop (0 * triples stars) first
+  unfolding rowsOf
+  rows-none = rw zero-mul
+
+  -- one row more: the part of the room that is direction i's is written
+  pub rows-more : (room row : List ℕ) (i : ℕ) → let m = triples stars in room ≡ rows i ++ drop (i * m) first → row ≡ rowOf directions stars tolerance i
+      → take (i * m) room ++ (row ++ drop (i * m + m - i * m) (drop (i * m) room)) ≡ rows (i + 1) ++ drop ((i + 1) * m) first
+  unfolding rowsOf
+  rows-more room row i e f =
+      let m = triples stars in
+      let k : i * m + m - i * m ≡ m = omega arith in
+      let l = rows-length directions stars tolerance i in
+      let p = take-at (rows i) (drop (i * m) first) (i * m) l in
+      let q : drop (i * m + m) (rows i ++ drop (i * m) first) ≡ drop (i * m + m) first = rw (← l, drop-append-add, drop-drop) in
+      rw (f, k, e, p, drop-drop, q, add-one, suc-mul, append-assoc)

@@ -1,2 +1,3 @@
 -- The laws that the proofs of `votes` cite.
 pub mod Store
+pub mod Counters

@@ -1,8 +1,8 @@
 -- Products that agree are near each other, and a product whose place is not marked agrees with none. Assumes nothing.
 use mathlib.Core.Path.{_≡_, refl, sym, ap, _∙_}
-use mathlib.Core.Bool.{Bool, true, false}
+use mathlib.Core.Bool.{Bool, true, false, and-false}
 use mathlib.Core.List.{List}
-use Prim.Native.Nat.{ℕ, suc, _+_, _*_, _≤_, _<_}
+use Prim.Native.Nat.{ℕ, suc, _+_, _≤_, _<_}
 use native.Mathlib.Omega.{arith}
 use borrow.Author.Tests.{le-ltb}
 use lib.Dec.{T}
@@ -12,9 +12,10 @@ use lib.ListN.{length, getD}
 use Rattle.numbers.specs.Abs.{abs-add, abs-neg}
 use Rattle.numbers.specs.Within.{Within}
 use Rattle.vectors.specs.Agree.{agreeing, agreeing-near}
-use Rattle.votes.specs.Sums.{sum-none}
-use Rattle.votes.specs.Given.{productAt, given, rowGiven, pairGiven}
-use Rattle.votes.specs.GivenLaws.{given-apart}
+use Rattle.counting.specs.Number.{number}
+use Rattle.counting.specs.NumberLaws.{number-none}
+use Rattle.votes.specs.Votes.{other}
+use Rattle.votes.specs.Progress.{agreesWith}
 use Rattle.votes.specs.Near.{liftedOf, placeOf, Marks, AllMarked}
 
 -- a product lies at most as high as another and their difference
@@ -45,16 +46,14 @@ lifted-sign {p = negsuc n} h = rw (le-ltb 3000000000000000000 (suc n) (h .within
 pub marks-more : (a b : List ℕ) (t : ℕ) (q : ℤ) → ((k : ℕ) → getD a k 0 ≡ 1 → getD b k 0 ≡ 1) → Marks a t q → Marks b t q
 marks-more a b t q f m = record { marked = λ p h e. f (placeOf p) (m .marked p h e) }
 
--- where the place is not marked, no pair of directions gives a vote
-pub none-near : (near : List ℕ) (products : List ℤ) (tolerance count : ℕ) (p : ℤ) (a b d s : ℕ) → AllMarked near products tolerance → length products ≡ 64 → count ≤ 8
-    → Within 3000000000000000000 p → getD near (placeOf p) 0 ≡ 0 → pairGiven (productAt products) tolerance count p a b d s ≡ 0
-unfolding pairGiven rowGiven
-none-near near products tolerance count p a b d s all l m h z =
-    sum-none count _ (λ j u. sum-none j _ (λ i v. go j i (omega arith) (agreeing (productAt products j i) p tolerance) refl))
+-- where the place is not marked, nothing agrees
+pub none-near : (near : List ℕ) (products : List ℤ) (count i : ℕ) (p : ℤ) (t : ℕ) → AllMarked near products t → count ≤ length products → Within 3000000000000000000 p
+    → getD near (placeOf p) 0 ≡ 0 → number count (agreesWith products i p t) ≡ 0
+none-near near products count i p t all m h z = number-none count (agreesWith products i p t) (λ j l. go j (omega arith) (agreeing (getD products j (pos 0)) p t) refl)
   where
     none : {n : ℕ} → n ≡ 0 → n ≡ 1 → ⊥
-    none x y = omega arith
+    none a b = omega arith
 
-    go : (j i : ℕ) → 8 * j + i < length products → (t : Bool) → agreeing (productAt products j i) p tolerance ≡ t → given (productAt products) tolerance p a b j i d s ≡ 0
-    go j i u true e = absurd (none z (all .each (8 * j + i) u .marked p h e))
-    go j i u false e = given-apart (productAt products) tolerance p a b j i d s e
+    go : (j : ℕ) → j < length products → (b : Bool) → agreeing (getD products j (pos 0)) p t ≡ b → agreesWith products i p t j ≡ false
+    go j l true e = absurd (none z (all .each j l .marked p h e))
+    go j l false e = rw e (and-false (other j i))

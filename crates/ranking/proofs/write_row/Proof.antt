@@ -1,31 +1,19 @@
--- `ranking::write_row` meets its contract: the row goes by the direction's stretch of the counters. Assumes nothing.
-use mathlib.Core.Path.{_≡_, ap, _∙_}
-use Prim.Native.Nat.{ℕ, _+_, _-_, _*_}
-use native.Mathlib.Omega.{arith}
+-- `ranking::write_row` meets its contract: the counters hold the votes, and the row goes by the counters. Assumes nothing.
+use mathlib.Core.List.{List}
+use mathlib.Core.Path.{ap, _∙_}
+use Prim.Native.Nat.{ℕ}
 use borrow.Author.Needs.{needs}
-use lib.ListN.{length, take, drop}
+use lib.ListN.{length}
 use Rattle.row.specs.Row.{rowBy}
-use Rattle.ranking.specs.Rows.{row-at}
+use Rattle.ranking.specs.Rows.{row-by-counters}
 use Rattle.ranking.proofs.write_row.Statement.{statement}
 use Rattle.ranking.proofs.write_row.Tie as tie
 
-mul-from : tie.Need-mul-from
-mul-from c = search needs
+votes-for-requires : tie.Need-votes-for-requires
+votes-for-requires c κs = search needs
 
-add-to : tie.Need-add-to
-add-to c = search needs
-
-mul-write : tie.Need-mul-write
-mul-write c = search needs
-
-sub-write : tie.Need-sub-write
-sub-write c = search needs
-
-part-write-start : tie.Need-part-write-start
-part-write-start c = search needs
-
-part-write-end : tie.Need-part-write-end
-part-write-end c = search needs
+slice-aggregate-write : tie.Need-slice-aggregate-write
+slice-aggregate-write c = search needs
 
 write-requires : tie.Need-write-requires
 write-requires c κs = search needs
@@ -35,24 +23,12 @@ same-length c = search needs
 
 returns : tie.Need-returns
 returns c =
-    let s = c .before .before .before .before .before .before .before in
+    let w = c .before .before in
+    let s = w .before .before .before .before .before in
     let x = s .args in
-    let m = length (x .row .now) in
-    let e : 512 * x .i + 512 - 512 * x .i ≡ 512 = omega arith in
-    c .before .before .write .ensures
-    ∙ ap (λ (n : ℕ). rowBy (take n (drop (512 * x .i) (x .votes .now))) m) e
-    ∙ row-at (x .votes .now) m (x .i) (s .pre .1)
+    w .write .ensures ∙ ap (λ (v : List ℕ). rowBy v (length (x .row .now))) (w .before .before .before .votes-for .ensures)
+    ∙ row-by-counters (x .directions .now) (x .stars .now) (x .tolerance) (x .i) (length (x .row .now)) (s .pre .1 .1 .1) (s .pre .1 .0 .few)
 
 pub write-row-spec : {M : Type 1} → statement M
 write-row-spec =
-    tie.close
-    (tie.spec
-    mul-from
-    add-to
-    mul-write
-    sub-write
-    part-write-start
-    part-write-end
-    write-requires
-    same-length
-    returns)
+    tie.close (tie.spec votes-for-requires slice-aggregate-write write-requires same-length returns)

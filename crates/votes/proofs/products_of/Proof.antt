@@ -1,6 +1,6 @@
--- `votes::products_of` meets its contract. The loop's invariant: the first k products are there, and all are within 3 * 10^18. Assumes nothing.
+-- `votes::products_of` meets its contract. The loop's invariant: the first j products are there, and all are within 3 * 10^18. Assumes nothing.
 use mathlib.Core.Path.{_≡_, _∙_}
-use Prim.Native.Nat.{ℕ, _≤_, _<_, _-_, _/_, _%_}
+use Prim.Native.Nat.{ℕ, _≤_, _<_, _-_}
 use native.Mathlib.Omega.{arith}
 use borrow.Author.Needs.{needs}
 use borrow.Author.Count.{below-none, below-more}
@@ -9,39 +9,35 @@ use lib.ListN.{length, getD, length-set}
 use lib.Seq.{getD-set-same, getD-set-other}
 use mir.Syntax.{w64}
 use Rattle.numbers.specs.Num.{arg, kept, near}
-use Rattle.vectors.specs.Triples.{AllWithin}
-use Rattle.votes.specs.Given.{productOf}
+use Rattle.vectors.specs.Triples.{AllWithin, pairDot}
 use Rattle.votes.proofs.Store.{within-set, within-zeros}
 use Rattle.votes.proofs.products_of.Statement.{statement}
 use Rattle.votes.proofs.products_of.Tie as tie
 
 abbrev Inv-loop : tie.InvT-loop
-Inv-loop directions products₀ end k₀ products k =
-    (k ≤ end)
-    × (length products ≡ 64)
-    × ((m : ℕ) → m < k → getD products m (pos 0) ≡ productOf directions (m / 8) (m % 8))
+Inv-loop directions i products₀ count j₀ products j =
+    (j ≤ count)
+    × (length products ≡ 8)
+    × ((k : ℕ) → k < j → getD products k (pos 0) ≡ pairDot directions i k)
     × AllWithin 3000000000000000000 products
 
 abbrev μ-loop : tie.MeasureT-loop
-μ-loop directions products₀ end k₀ products k = end - k
-
-mul-end : tie.Need-mul-end Inv-loop μ-loop
-mul-end c = search needs
+μ-loop directions i products₀ count j₀ products j = count - j
 
 loop-holds : tie.Need-loop-holds Inv-loop μ-loop
-loop-holds c = (search needs, search needs, below-none _, within-zeros 64 _)
+loop-holds c = (search needs, search needs, below-none _, within-zeros 8 _)
 
-product-of-requires : tie.Need-product-of-requires Inv-loop μ-loop
-product-of-requires c κs = (c .before .before .pre, omega arith)
+pair-dot-requires : tie.Need-pair-dot-requires Inv-loop μ-loop
+pair-dot-requires c κs = search needs
 
 mul-products : tie.Need-mul-products Inv-loop μ-loop
 mul-products c = search needs
 
 array-set-from-products : tie.Need-array-set-from-products Inv-loop μ-loop
-array-set-from-products c = omega (arith, c .before .before .before .pre .few)
+array-set-from-products c = search needs
 
-add-k : tie.Need-add-k Inv-loop μ-loop
-add-k c = search needs
+add-j : tie.Need-add-j Inv-loop μ-loop
+add-j c = search needs
 
 loop-less : tie.Need-loop-less Inv-loop μ-loop
 loop-less c = search needs
@@ -49,18 +45,18 @@ loop-less c = search needs
 loop-again : tie.Need-loop-again Inv-loop μ-loop
 loop-again c =
     let l = c .before .before .loop in
-    let e = c .product-of .ensures in
-    let h : l .k < length (l .products) = omega (arith, c .before .before .before .pre .few) in (
+    let e = c .pair-dot .ensures in
+    let h : l .j < length (l .products) = omega arith in (
       omega arith,
       simp length-set (l .inv .1),
       below-more _ _
-          (λ m p. getD-set-other (l .products) (l .k) m _ (pos 0) (λ q. omega arith) ∙ l .inv .2 m p)
-          (getD-set-same (l .products) (l .k) _ (pos 0) h ∙ kept w64 (c .product-of .ok) (e .0)),
-      within-set (l .products) (l .k) _ h (l .inv .3) (near (arg {w = w64} (e .1) tt) tt),
+          (λ k p. getD-set-other (l .products) (l .j) k _ (pos 0) (λ q. omega arith) ∙ l .inv .2 k p)
+          (getD-set-same (l .products) (l .j) _ (pos 0) h ∙ kept w64 (c .pair-dot .ok) (e .0)),
+      within-set (l .products) (l .j) _ h (l .inv .3) (near (arg {w = w64} (e .1) tt) tt),
     )
 
 returns : tie.Need-returns Inv-loop μ-loop
-returns c = ((λ k h. c .before .loop .inv .2 k (omega arith)), c .before .loop .inv .3)
+returns c = ((λ j h. c .before .loop .inv .2 j (omega arith)), c .before .loop .inv .3)
 
 pub products-of-spec : {M : Type 1} → statement M
 products-of-spec =
@@ -68,12 +64,11 @@ products-of-spec =
     (tie.spec
     Inv-loop
     μ-loop
-    mul-end
     loop-holds
-    product-of-requires
+    pair-dot-requires
     mul-products
     array-set-from-products
-    add-k
+    add-j
     loop-less
     loop-again
     returns)

@@ -1,37 +1,26 @@
--- `index_votes::by_catalogue::vote_all` meets its contract. The loop's invariant: the counters have grown by what the first b stars' pairs give. Assumes nothing.
-use mathlib.Core.Path.{_≡_, ap, _∙_}
-use Prim.Native.Nat.{ℕ, _-_, _≤_}
+-- `index_votes::by_catalogue::vote_all` meets its contract. The loop's invariant: the counters have the votes of the first b stars' pairs. Assumes nothing.
+use mathlib.Core.Path.{_≡_, refl, ap, _∙_}
+use Prim.Native.Nat.{ℕ, _+_, _-_, _≤_}
 use native.Mathlib.Omega.{arith}
-use borrow.Author.Needs.{needs}
+use lib.ListN.{length, getD}
 use Rattle.vectors.specs.Triples.{triples}
-use Rattle.votes.specs.Sums.{sumTo, sum-bound}
-use Rattle.votes.specs.Counters.{Grown}
-use Rattle.votes.specs.CounterLaws.{grown-start, grown-next, grown-same, grown-below}
-use Rattle.index_votes.specs.Both.{both, both-most, both-sum}
-use Rattle.index_votes.specs.Span.{rowVotes, allVotes}
-use Rattle.index_votes.specs.SpanLaws.{row-most}
+use Rattle.index_votes.specs.Span.{sumTo, rowVotes, allVotes}
+use Rattle.index_votes.specs.SpanLaws.{sum-empty, sum-next, sum-bound, row-most}
+use borrow.Author.Needs.{needs}
 use Rattle.index_votes.proofs.by_catalogue.vote_all.Statement.{statement}
 use Rattle.index_votes.proofs.by_catalogue.vote_all.Tie as tie
 
 abbrev Inv-loop : tie.InvT-loop
-Inv-loop stars lower upper i j votes₀ total b₀ votes b =
-    (b ≤ total) × Grown (λ d s. sumTo b (λ m. both i j (λ c. rowVotes stars lower upper c m) d s)) votes₀ votes
+Inv-loop stars lower upper votes₀ total b₀ votes b =
+    (b ≤ total)
+    × (length votes ≡ length votes₀)
+    × ((c : ℕ) → getD votes c 0 ≡ getD votes₀ c 0 + sumTo b (rowVotes stars lower upper c))
 
 abbrev μ-loop : tie.MeasureT-loop
-μ-loop stars lower upper i j votes₀ total b₀ votes b = total - b
-
-abbrev Start : Type 0
-Start = tie.Start Inv-loop μ-loop
-
--- what the pairs of star m give to star c
-abbrev row : Start → ℕ → ℕ → ℕ
-row s m c = rowVotes (s .args .stars .now) (s .args .lower) (s .args .upper) c m
-
-abbrev gives : Start → ℕ → ℕ → ℕ → ℕ
-gives s m = both (s .args .i) (s .args .j) (row s m)
+μ-loop stars lower upper votes₀ total b₀ votes b = total - b
 
 loop-holds : tie.Need-loop-holds Inv-loop μ-loop
-loop-holds c = (omega arith, grown-start (gives (c .before)) (c .before .args .votes .now))
+loop-holds c = (omega arith, refl, λ k. sum-empty _ _)
 
 vote-row-requires : tie.Need-vote-row-requires Inv-loop μ-loop
 vote-row-requires c κs =
@@ -43,10 +32,9 @@ vote-row-requires c κs =
       (
         omega arith,
         (
-          s .pre .1 .0,
-          grown-below 3500000000 1048576 (s .pre .1 .1) (l .loop .inv .1)
-              (λ d t. omega (arith, sum-bound 2048 (l .loop .b) (λ m. gives s m d t) (λ m h. both-most (x .i) (x .j) d t 1024 (row s m) (omega (arith, row-most (x .stars .now) (x .lower) (x .upper) t m)))))
-              (omega arith),
+          l .loop .inv .1 ∙ s .pre .1 .0,
+          λ k.
+              omega (arith, l .loop .inv .2 k, s .pre .1 .1 k, sum-bound 1024 (l .loop .b) (rowVotes (x .stars .now) (x .lower) (x .upper) k) (λ b h. omega (arith, row-most (x .stars .now) (x .lower) (x .upper) k b))),
         ),
       ),
     )
@@ -59,9 +47,14 @@ loop-less c = search needs
 
 loop-again : tie.Need-loop-again Inv-loop μ-loop
 loop-again c =
+    let w = c .before .before .vote-row in
     let l = c .before .before .before .before .before in
-    let s = l .before .before in
-    (omega arith, grown-next (gives s) (l .loop .b) (l .loop .inv .1) (c .before .before .vote-row .ensures))
+    let x = l .before .before .args in (
+      omega arith,
+      w .kept .1 .1 .1 .1 .0 ∙ l .loop .inv .1,
+      λ k.
+          omega (arith, w .ensures k, l .loop .inv .2 k, sum-next (l .loop .b) (rowVotes (x .stars .now) (x .lower) (x .upper) k)),
+    )
 
 same-length : tie.Need-same-length Inv-loop μ-loop
 same-length c = search needs
@@ -70,10 +63,9 @@ returns : tie.Need-returns Inv-loop μ-loop
 unfolding allVotes
 returns c =
     let l = c .before in
-    let s = l .before .before in
-    let x = s .args in
+    let x = l .before .before .args in
     let e : l .loop .b ≡ triples (x .stars .now) = omega arith in
-    grown-same _ (l .loop .inv .1) (λ d t. ap (λ (n : ℕ). sumTo n (λ m. gives s m d t)) e ∙ both-sum (x .i) (x .j) d t (triples (x .stars .now)) (row s))
+    λ k. l .loop .inv .2 k ∙ ap (λ (n : ℕ). getD (x .votes .now) k 0 + sumTo n (rowVotes (x .stars .now) (x .lower) (x .upper) k)) e
 
 pub vote-all-spec : {M : Type 1} → statement M
 vote-all-spec =

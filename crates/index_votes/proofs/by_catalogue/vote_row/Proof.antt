@@ -1,37 +1,25 @@
--- `index_votes::by_catalogue::vote_row` meets its contract. The loop's invariant: the counters have grown by what the pairs with the first a stars give. Assumes
--- nothing.
-use mathlib.Core.Path.{_≡_, ap, _∙_}
-use Prim.Native.Nat.{ℕ, _-_, _≤_}
+-- `index_votes::by_catalogue::vote_row` meets its contract. The loop's invariant: the counters have the votes of the pairs with the first a stars. Assumes nothing.
+use mathlib.Core.Path.{_≡_, refl, ap, _∙_}
+use Prim.Native.Nat.{ℕ, _+_, _-_, _≤_}
 use native.Mathlib.Omega.{arith}
+use lib.ListN.{length, getD}
+use Rattle.index_votes.specs.Span.{sumTo, inSpan, meets, rowVotes}
+use Rattle.index_votes.specs.SpanLaws.{sum-empty, sum-next, sum-bound, meets-most}
 use borrow.Author.Needs.{needs}
-use Rattle.votes.specs.Sums.{sumTo, sum-bound}
-use Rattle.votes.specs.Counters.{Grown}
-use Rattle.votes.specs.CounterLaws.{grown-start, grown-next, grown-same, grown-below}
-use Rattle.index_votes.specs.Both.{both, both-most, both-sum}
-use Rattle.index_votes.specs.Span.{inSpan, meets, rowVotes}
-use Rattle.index_votes.specs.SpanLaws.{meets-most}
 use Rattle.index_votes.proofs.by_catalogue.vote_row.Statement.{statement}
 use Rattle.index_votes.proofs.by_catalogue.vote_row.Tie as tie
 
 abbrev Inv-loop : tie.InvT-loop
-Inv-loop stars lower upper b i j votes₀ a₀ votes a =
-    (a ≤ b) × Grown (λ d s. sumTo a (λ m. both i j (λ c. meets (inSpan stars lower upper) c b m) d s)) votes₀ votes
+Inv-loop stars lower upper b votes₀ a₀ votes a =
+    (a ≤ b)
+    × (length votes ≡ length votes₀)
+    × ((c : ℕ) → getD votes c 0 ≡ getD votes₀ c 0 + sumTo a (meets (inSpan stars lower upper) c b))
 
 abbrev μ-loop : tie.MeasureT-loop
-μ-loop stars lower upper b i j votes₀ a₀ votes a = b - a
-
-abbrev Start : Type 0
-Start = tie.Start Inv-loop μ-loop
-
--- what the pair with star m gives to star c
-abbrev meeting : Start → ℕ → ℕ → ℕ
-meeting s m c = meets (inSpan (s .args .stars .now) (s .args .lower) (s .args .upper)) c (s .args .b) m
-
-abbrev gives : Start → ℕ → ℕ → ℕ → ℕ
-gives s m = both (s .args .i) (s .args .j) (meeting s m)
+μ-loop stars lower upper b votes₀ a₀ votes a = b - a
 
 loop-holds : tie.Need-loop-holds Inv-loop μ-loop
-loop-holds c = (omega arith, grown-start (gives (c .before)) (c .before .args .votes .now))
+loop-holds c = (omega arith, refl, λ k. sum-empty _ _)
 
 vote-pair-requires : tie.Need-vote-pair-requires Inv-loop μ-loop
 vote-pair-requires c κs =
@@ -42,10 +30,9 @@ vote-pair-requires c κs =
       (
         (omega arith, s .pre .1 .0),
         (
-          s .pre .1 .1 .0,
-          grown-below 4000000000 2048 (s .pre .1 .1 .1) (l .loop .inv .1)
-              (λ d t. omega (arith, s .pre .0 .few, s .pre .1 .0, sum-bound 4 (l .loop .a) (λ m. gives s m d t) (λ m h. both-most (x .i) (x .j) d t 2 (meeting s m) (meets-most (x .stars .now) (x .lower) (x .upper) t (x .b) m))))
-              (omega arith),
+          l .loop .inv .1 ∙ s .pre .1 .1 .0,
+          λ k.
+              omega (arith, s .pre .0 .few, s .pre .1 .0, l .loop .inv .2 k, s .pre .1 .1 .1 k, sum-bound 2 (l .loop .a) (meets (inSpan (x .stars .now) (x .lower) (x .upper)) k (x .b)) (λ a h. meets-most (x .stars .now) (x .lower) (x .upper) k (x .b) a)),
         ),
       ),
     )
@@ -58,9 +45,14 @@ loop-less c = search needs
 
 loop-again : tie.Need-loop-again Inv-loop μ-loop
 loop-again c =
+    let w = c .before .before .vote-pair in
     let l = c .before .before .before .before .before in
-    let s = l .before .before in
-    (omega arith, grown-next (gives s) (l .loop .a) (l .loop .inv .1) (c .before .before .vote-pair .ensures))
+    let x = l .before .before .args in (
+      omega arith,
+      w .kept .1 .1 .1 .1 .1 .0 ∙ l .loop .inv .1,
+      λ k.
+          omega (arith, w .ensures k, l .loop .inv .2 k, sum-next (l .loop .a) (meets (inSpan (x .stars .now) (x .lower) (x .upper)) k (x .b))),
+    )
 
 same-length : tie.Need-same-length Inv-loop μ-loop
 same-length c = search needs
@@ -69,10 +61,9 @@ returns : tie.Need-returns Inv-loop μ-loop
 unfolding rowVotes
 returns c =
     let l = c .before in
-    let s = l .before .before in
-    let x = s .args in
+    let x = l .before .before .args in
     let e : l .loop .a ≡ x .b = omega arith in
-    grown-same _ (l .loop .inv .1) (λ d t. ap (λ (n : ℕ). sumTo n (λ m. gives s m d t)) e ∙ both-sum (x .i) (x .j) d t (x .b) (meeting s))
+    λ k. l .loop .inv .2 k ∙ ap (λ (n : ℕ). getD (x .votes .now) k 0 + sumTo n (meets (inSpan (x .stars .now) (x .lower) (x .upper)) k (x .b))) e
 
 pub vote-row-spec : {M : Type 1} → statement M
 vote-row-spec =

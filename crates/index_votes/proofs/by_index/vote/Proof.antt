@@ -1,12 +1,11 @@
 -- `index_votes::by_index::vote` meets its contract: the records of the span give what all pairs of the catalogue in it give. Assumes nothing.
-use mathlib.Core.Path.{_∙_}
-use Prim.Native.Nat.{_+_, _-_}
-use borrow.Author.Needs.{needs}
-use Rattle.votes.specs.CounterLaws.{grown-same}
+use mathlib.Core.Path.{_≡_, ap, _∙_}
+use Prim.Native.Nat.{ℕ, _+_, _-_}
+use lib.ListN.{getD}
 use Rattle.index_records.specs.Read.{Bytes}
-use Rattle.index_votes.specs.Both.{both-same}
 use Rattle.index_votes.specs.Span.{allVotes}
 use Rattle.index_votes.specs.Plain.{span-all, all-plain}
+use borrow.Author.Needs.{needs}
 use Rattle.index_votes.proofs.by_index.vote.Statement.{statement}
 use Rattle.index_votes.proofs.by_index.vote.Tie as tie
 
@@ -28,12 +27,11 @@ returns c =
     let x = k .before .args in
     let b : Bytes (x .index .now) = λ n. k .shared-slice-known .given n .fits in
     record {
-      added = λ stars floor q l e f p h.
-          grown-same _ (c .before .before .walk .ensures) (λ d t.
-          both-same (x .i) (x .j) d t _ _
-          (span-all stars floor (x .product - x .tolerance) (x .product + x .tolerance) t l h (x .index .now) b e
-          ∙ (λ u. allVotes stars (p u - x .tolerance) (p u + x .tolerance) t)
-          ∙ all-plain stars q (x .tolerance) t l f));
+      added = λ stars floor q l e f p h a.
+          c .before .before .walk .ensures a ∙ ap (λ (n : ℕ). getD (x .votes .now) a 0 + n)
+          (span-all stars floor (x .product - x .tolerance) (x .product + x .tolerance) a l h (x .index .now) b e
+          ∙ (λ u. allVotes stars (p u - x .tolerance) (p u + x .tolerance) a)
+          ∙ all-plain stars q (x .tolerance) a l f);
     }
 
 pub vote-spec : {M : Type 1} → statement M
