@@ -35,7 +35,7 @@ largest-within v =
 div-mono : {p a b : ℕ} → 0 < p → a ≤ b → a / p ≤ b / p
 div-mono {p} {a} h k = le-div-iff-mul-le h .1 (le-trans (div-mul-le-self a p) k)
 
-quot-within : {a p : ℕ} {z : ℤ} → 0 < p → Within a z → Within (a / p) (quotZ z (pos p))
+pub quot-within : {a p : ℕ} {z : ℤ} → 0 < p → Within a z → Within (a / p) (quotZ z (pos p))
 quot-within h k = record { within = rw abs-quot (div-mono h (k .within)) }
 
 over-within : {a p : ℕ} {v : Vec3} → 0 < p → Within3 a v → Within3 (a / p) (overOf v (pos p))
@@ -56,7 +56,7 @@ max-div p a b (yes h) = let e : max a b ≡ a = omega arith in rw e (omega arith
 max-div p a b (no h) = let e : max a b ≡ b = omega arith in rw e (omega arith)
 
 -- the largest of the quotients is the largest's quotient, or more
-largest-over : (v : Vec3) (p : ℕ) → largestOf v / p ≤ largestOf (overOf v (pos p))
+pub largest-over : (v : Vec3) (p : ℕ) → largestOf v / p ≤ largestOf (overOf v (pos p))
 largest-over v p =
     let x = natAbs (v .x) in
     let y = natAbs (v .y) in

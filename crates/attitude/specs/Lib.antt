@@ -1,4 +1,4 @@
--- The definitions that the contracts cite, in the order of the calculation, then their laws, and the cases of the bench set.
+-- The definitions that the contracts cite, in the order of the calculation, then their laws, how accurate axes and matrix are, and the cases of the bench set.
 pub mod Scale
 pub mod Side
 pub mod Entries
@@ -7,5 +7,13 @@ pub mod Shift
 pub mod Bounds
 pub mod Laws
 pub mod Transposed
+pub mod Nearly
+pub mod Identities
+pub mod Length
+pub mod Upright
+pub mod Carry
+pub mod Frame
+pub mod Rotation
+pub mod Accuracy
 pub mod Known
 pub mod Bench

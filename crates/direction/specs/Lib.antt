@@ -6,5 +6,7 @@ pub mod Settings
 pub mod Position
 pub mod Direction
 pub mod PositionLaws
+pub mod LengthLaws
+pub mod MovedLaws
 pub mod SettingsLaws
 pub mod DirectionLaws
