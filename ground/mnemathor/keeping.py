@@ -136,7 +136,7 @@ def _put(folder, files):
         while waiting:
             os.replace(*waiting[0])
             waiting.pop(0)
-    except FileExistsError as error:
+    except (FileExistsError, NotADirectoryError) as error:
         raise Mistake(f"{folder} is no folder") from error
     except OSError as error:
         raise Unwritten(f"{folder} could not be written: {error.strerror or error}") from error

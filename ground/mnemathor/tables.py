@@ -12,6 +12,8 @@ from .refusals import Mistake
 
 TEXT = (".csv", ".ecsv", ".txt", ".tsv", ".dat", ".asc", ".tab")
 SEPARATORS = ("\t", ";", "|", ",")
+# What stands where there is no value; Yale's column of signs alone has dashes that mean something.
+GAPS = ("", "-", "~", "null", "nan", '""')
 # Units as VizieR and others write them.
 UNITS = {"deg": u.deg, "h": u.hourangle, "rad": u.rad, "arcsec": u.arcsec, "hourangle": u.hourangle}
 
@@ -98,7 +100,7 @@ def _of_text(text):
     values, missing = {}, {}
     for place, name in enumerate(names):
         column = [cell[place] for _, cell in body]
-        missing[name] = np.array([cell in ("", "~", "-", "NULL", "null", "nan", "NaN", '""') for cell in column], bool)
+        missing[name] = np.array([cell.lower() in GAPS and (cell != "-" or name != "DE-") for cell in column], bool)
         values[name] = _typed(column, missing[name])
     return Columns(values, missing, units, np.array([number for number, _ in body], int), dropped)
 
@@ -116,8 +118,14 @@ def _head(cells):
 
 
 def _typed(column, missing):
-    """Numbers, where all that is there are numbers; else text."""
+    """Numbers, where most of what is there are numbers, and nan for the others; else text."""
+    numbers = np.array([as_number(cell) for cell in column], float)
+    return numbers if 2 * np.isfinite(numbers).sum() > (~missing).sum() or missing.all() else np.array(column, str)
+
+
+def as_number(cell):
+    """A cell as a number; nan where it is none."""
     try:
-        return np.array([np.nan if gap else float(cell) for cell, gap in zip(column, missing)])
+        return float(cell)
     except ValueError:
-        return np.array(column, str)
+        return np.nan

@@ -49,7 +49,7 @@ def test_rings_are_where_the_stars_are(settings, catalogue, orion):
     figure = pictures.picture(settings, orion.samples, catalogue)
     solution = solving.solve(settings, orion.samples, catalogue)
     image, at = drawn(figure)
-    radius = at(pictures.RING, 0)[1] - at(0, 0)[1]
+    radius = at(pictures.ring(settings), 0)[1] - at(0, 0)[1]
     assert radius > 10
     for star in solution.stars:
         colour, other = (pictures.NAMED, pictures.UNNAMED) if star.identity is not None else (pictures.UNNAMED, pictures.NAMED)

@@ -53,7 +53,7 @@ def test_a_small_trial(run, folder, tmp_path):
         assert each["frames"] == 12 == each["accepted"] + sum(each["refusals"].values())
         assert each["wrong_names"] <= each["accepted"]
     assert one["cells"][2]["wrong_names"] > 0 and one["recommended"]["needed"] == 4
-    status, out, _ = run(*words, "--set")
+    status, out, _ = run(*words, "--set", "--bound", 30)
     assert status == 0 and "recommended: tolerance 200000000000000, needed 4" in out and "exact binomial" in out
     assert (read_settings(folder).tolerance, read_settings(folder).needed) == (2 * 10**14, 4)
 
@@ -74,6 +74,6 @@ def test_rivals_are_counted(run, folder):
 
 
 def test_trials_that_are_refused(run, folder):
-    for words, told in ((("--needed", 9), "refused 9 0"), (("--tolerances", 10**16 + 1), "refused 9 0"), (("--frames", 0), "at least one frame")):
+    for words, told in ((("--needed", 9), "refused 9 0"), (("--tolerances", 10**16 + 1), "refused 9 0"), (("--frames", 0), "0 is no whole number from 1")):
         status, out, err = run("trial", folder, *words)
         assert status in (1, 2) and told in err and out == ""
