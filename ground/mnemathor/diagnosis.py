@@ -105,10 +105,9 @@ def what_would_fit(settings, samples, catalogue):
     if mirrored_fits(settings, samples, catalogue):
         found["mirror"] = MIRROR
     for name, changed, told in _looser(settings):
-        named = _named(changed, samples, catalogue)
+        named = 0 if name in found else _named(changed, samples, catalogue)
         if named:
             found[name] = f"with {told} it would fit, with {named} names{_caution(changed)}"
-            break
     best = max(((_named(other, samples, catalogue), -abs(step), other) for step, other in _focals(settings)), key=lambda each: each[:2])
     if best[0] >= max(settings.needed, 4):
         found["focal"] = f"with a focal length of {best[2].focal / PIXEL:.2f} pixels, not {settings.focal / PIXEL:.2f}, it would fit, with {best[0]} names"

@@ -29,6 +29,8 @@ from .trials import shorter_side
 NAMED, UNNAMED, EDGE, LONE, UNLISTED, CATALOGUE, ASKED = "#39d353", "#ff9f1c", "#ffe14d", "#ff4d6d", "#7aa2ff", "#27d3f5", "#ff5cf4"
 # A ring is this part of the frame's width, and no smaller than a star's window.
 RING, WINDOW = 1 / 40, 3.5
+# The legend's room, in inches.
+LEGEND = 0.6
 # What each kind of file says about who made it.
 KINDS = {"png": {"Software": "mnemathor"}, "pdf": {"Creator": "mnemathor", "CreationDate": None}, "svg": {"Creator": "mnemathor", "Date": None}}
 # At most so many pixels are asked about; frames with more above the threshold are no frames of stars.
@@ -50,7 +52,7 @@ def picture(settings, samples, catalogue, pixel=None, dpi=100):
     if solution:
         counts["catalogue"] = _mark_catalogue(axes, solution, catalogue, settings)
     axes.set_title(_title(solution, refusal), fontsize=9)
-    _legend(axes, stars, counts)
+    _legend(figure.axes[-1], stars, counts)
     if pixel is not None:
         _window(figure, samples, settings, *pixel)
     return figure
@@ -162,24 +164,23 @@ def _try_to_solve(settings, samples, catalogue):
 
 
 def _figure(settings, with_window, dpi):
-    """A figure for a frame of that shape, with a place for a window where one is asked for."""
+    """A figure for a frame of that shape, with a place for a window where one is asked for, and one below for the legend."""
     wide = 7.5
-    tall = min(10.0, max(3.0, 0.92 * wide * settings.height / settings.width)) + 1.5
-    figure = Figure(figsize=(wide + (3.6 if with_window else 0), tall), dpi=dpi, layout="constrained")
-    if with_window:
-        figure.subplots(1, 2, width_ratios=[2.1, 1])
-    else:
-        figure.subplots()
-    for axes in figure.axes:
-        axes.set_anchor("N")
+    tall = min(10.0, max(3.0, 0.92 * wide * settings.height / settings.width)) + 1.0
+    figure = Figure(figsize=(wide + (3.6 if with_window else 0), tall + LEGEND), dpi=dpi, layout="constrained")
+    columns = [2.1, 1] if with_window else [1]
+    places = figure.add_gridspec(2, len(columns), width_ratios=columns, height_ratios=[tall, LEGEND])
+    for column in range(len(columns)):
+        figure.add_subplot(places[0, column]).set_anchor("N")
+    figure.add_subplot(places[1, :]).set_axis_off()
     return figure
 
 
 def _show(axes, samples):
     """The frame itself: from just below the sky to the brightest, faint things lifted above the noise."""
     _, sky, noise = sigma_clipped_stats(samples, sigma=3.0, maxiters=5)
-    low = sky - 2 * noise
-    high = max(sky + 20 * noise, np.percentile(samples, 99.9), low + 1)
+    low, high = sky - noise, sky + 50 * noise if noise else float(samples.max())
+    high = max(high, low + 1)
     axes.imshow(samples, cmap="gray", origin="upper", interpolation="nearest", norm=ImageNormalize(vmin=low, vmax=high, stretch=AsinhStretch(0.2), clip=True))
     axes.set_xlabel("column")
     axes.set_ylabel("row")
@@ -256,13 +257,13 @@ def _legend(axes, stars, counts):
     shown = [Line2D([], [], marker=marker, color=colour, fillstyle="none", linestyle="", label=label) for label, marker, colour, count in entries if count]
     if shown:
         look = {"fontsize": 8, "facecolor": "#222222", "edgecolor": "#222222", "labelcolor": "white"}
-        axes.legend(handles=shown, loc="upper center", bbox_to_anchor=(0.5, -0.1), ncols=min(len(shown), 3), **look)
+        axes.legend(handles=shown, loc="center", ncols=min(len(shown), 3), **look)
 
 
 def _window(figure, samples, settings, row, column):
     """The window of a pixel, enlarged, with every sample and the reason in words."""
     reason = library.reason(samples, settings, row, column)
-    frame, axes = figure.axes
+    frame, axes = figure.axes[:2]
     frame.add_patch(Rectangle((column - 3.5, row - 3.5), 7, 7, fill=False, edgecolor=ASKED, linewidth=1.2))
     top, left = max(row - 3, 0), max(column - 3, 0)
     part = samples[top : row + 4, left : column + 4]
