@@ -16,6 +16,13 @@
 #include <stddef.h>
 #include <stdint.h>
 
+/* The version of this header and of the archive beside it. docs/FLIGHT.md says what each number promises. */
+#define MN_VERSION_MAJOR 1
+#define MN_VERSION_MINOR 1
+#define MN_VERSION_PATCH 0
+/* As one number, to compare: 10100 for 1.1.0. */
+#define MN_VERSION (10000 * MN_VERSION_MAJOR + 100 * MN_VERSION_MINOR + MN_VERSION_PATCH)
+
 /* Every call is local to the file that includes this one. A file that wants them as symbols defines MN_FUNCTION as nothing (include/mnemathor.c does). */
 #ifndef MN_FUNCTION
 #define MN_FUNCTION static inline
@@ -23,6 +30,11 @@
 
 #ifdef __cplusplus
 extern "C" {
+/* A call may have the name of the struct that it gives, as above; C++ compilers warn of that as of a hidden constructor. */
+#ifdef __GNUC__
+#pragma GCC diagnostic push
+#pragma GCC diagnostic ignored "-Wshadow"
+#endif
 #endif
 
 /* Sizes. */
@@ -358,6 +370,12 @@ static inline void mn_give_report(struct mn_refusal seen, const struct mn_report
         numbers[k] = 0;
 }
 
+/* Directions as they are lent: three numbers each, with nothing between them. */
+static inline const int32_t *mn_give_directions(const struct mn_direction *directions)
+{
+    return directions ? &directions->x : (const int32_t *)0;
+}
+
 static inline void mn_give_direction(const struct mn_direction *direction, int64_t *numbers)
 {
     numbers[0] = direction->x;
@@ -467,7 +485,7 @@ MN_FUNCTION struct mn_refusal mn_ranking(const struct mn_direction *directions, 
                                          const struct mn_settings *settings, uint16_t *room, size_t room_len)
 {
     int64_t out[MN_NUMBERS];
-    mnemathor_ranking((const int32_t *)directions, 3 * directions_count, catalogue, catalogue_len, settings->tolerance, room, room_len, out, MN_NUMBERS);
+    mnemathor_ranking(mn_give_directions(directions), 3 * directions_count, catalogue, catalogue_len, settings->tolerance, room, room_len, out, MN_NUMBERS);
     return mn_take_refusal(out);
 }
 
@@ -487,7 +505,7 @@ MN_FUNCTION struct mn_refusal mn_ranking_by_index(const struct mn_direction *dir
                                                   const struct mn_settings *settings, uint16_t *room, size_t room_len)
 {
     int64_t out[MN_NUMBERS];
-    mnemathor_ranking_by_index((const int32_t *)directions, 3 * directions_count, catalogue, catalogue_len, index, index_len, floor, settings->tolerance, room,
+    mnemathor_ranking_by_index(mn_give_directions(directions), 3 * directions_count, catalogue, catalogue_len, index, index_len, floor, settings->tolerance, room,
                                room_len, out, MN_NUMBERS);
     return mn_take_refusal(out);
 }
@@ -521,7 +539,7 @@ MN_FUNCTION struct mn_refusal mn_search(const struct mn_direction *directions, s
                                         const struct mn_settings *settings, const uint16_t *ranking, size_t ranking_len, struct mn_assignment *assignment)
 {
     int64_t out[MN_NUMBERS];
-    mnemathor_search((const int32_t *)directions, 3 * directions_count, catalogue, catalogue_len, settings->needed, settings->tolerance, ranking, ranking_len,
+    mnemathor_search(mn_give_directions(directions), 3 * directions_count, catalogue, catalogue_len, settings->needed, settings->tolerance, ranking, ranking_len,
                      out, MN_NUMBERS);
     assignment->count = out[2];
     mn_take_stars(out + 3, assignment->stars);
@@ -534,7 +552,7 @@ MN_FUNCTION struct mn_refusal mn_rival(const struct mn_direction *directions, si
                                        const struct mn_settings *settings, const uint16_t *ranking, size_t ranking_len, struct mn_rival *rival)
 {
     int64_t out[MN_NUMBERS];
-    mnemathor_rival((const int32_t *)directions, 3 * directions_count, catalogue, catalogue_len, settings->needed, settings->tolerance, ranking, ranking_len,
+    mnemathor_rival(mn_give_directions(directions), 3 * directions_count, catalogue, catalogue_len, settings->needed, settings->tolerance, ranking, ranking_len,
                     out, MN_NUMBERS);
     rival->exists = out[2];
     mn_take_stars(out + 3, rival->stars);
@@ -700,6 +718,9 @@ MN_FUNCTION void mn_read_framed(const uint8_t *records, size_t k, struct mn_fram
 }
 
 #ifdef __cplusplus
+#ifdef __GNUC__
+#pragma GCC diagnostic pop
+#endif
 }
 #endif
 

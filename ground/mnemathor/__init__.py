@@ -8,5 +8,6 @@
 """
 
 from .refusals import Mistake, Refused
+from .version import VERSION as __version__
 
-__all__ = ["Mistake", "Refused"]
+__all__ = ["Mistake", "Refused", "__version__"]

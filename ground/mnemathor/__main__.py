@@ -2,6 +2,15 @@
 
 import sys
 
-from .commands import main
+from .endings import end
 
-sys.exit(main(sys.argv[1:]))
+
+def run(words):
+    """The subcommands are loaded here, which takes its time, so that an interruption finds the one place that catches it."""
+    from .commands import run as command
+
+    command(words)
+
+
+if __name__ == "__main__":
+    sys.exit(end(run, sys.argv[1:]))

@@ -2,38 +2,42 @@
 
 import argparse
 import json
+import os
+import re
 import sys
 from dataclasses import replace
 from pathlib import Path
 
 from . import configuration, frames, stars
 from .attitude import Pointing
-from .folder import SAMPLE, read_catalogue, read_settings, settings_bytes, write_file, write_folder
+from .endings import end
+from .folder import SAMPLE, read_catalogue, read_settings, settings_bytes
+from .keeping import may_write, write_file, write_folder
 from .refusals import Mistake, Refused
-
-STATUS_REFUSED, STATUS_MISTAKE = 1, 2
+from .words import number, whole
 
 
 def main(words):
-    """Runs a subcommand; the status is 0, 1 for a refusal of the library, 2 for any other mistake."""
-    arguments = parser().parse_args(words)
-    try:
-        arguments.run(arguments)
-    except Refused as refusal:
-        print(refusal, file=sys.stderr)
-        return STATUS_REFUSED
-    except Mistake as mistake:
-        print(f"mnemathor: {mistake}", file=sys.stderr)
-        return STATUS_MISTAKE
-    except KeyboardInterrupt:
-        print("mnemathor: stopped", file=sys.stderr)
-        return STATUS_MISTAKE
-    return 0
+    """Runs a subcommand; the status is that of `endings`."""
+    return end(run, words)
+
+
+def run(words):
+    """Runs a subcommand. A file or folder whose name begins with a dash is one, where there is no such option."""
+    arguments = parser().parse_args([f"./{word}" if re.match("-[^-h0-9.]", word) and os.path.exists(word) else word for word in words])
+    arguments.run(arguments)
+
+
+class _Parser(argparse.ArgumentParser):
+    """Wrong words are a mistake as any other, told in a line."""
+
+    def error(self, message):
+        raise Mistake(f"{message}; {self.prog} --help tells more")
 
 
 def parser():
     """All subcommands."""
-    top = argparse.ArgumentParser(prog="./mnemathor", description="The star camera on the ground.")
+    top = _Parser(prog="./mnemathor", description="The star camera on the ground.")
     subcommands = top.add_subparsers(required=True, metavar="SUBCOMMAND")
     for add in (_add_frame, _add_catalogue, _add_settings, _add_solve, _add_picture, _add_simulate, _add_trial):
         add(subcommands)
@@ -55,6 +59,11 @@ def _add(subcommands, name, run, line, description):
     return words
 
 
+def _add_force(words, what):
+    """The word that lets a file go that the tools did not make."""
+    words.add_argument("--force", action="store_true", help=f"overwrite a {what}")
+
+
 # frame
 
 
@@ -65,27 +74,30 @@ def _add_frame(subcommands):
         _frame,
         "turns an image into frame.bin",
         "FITS, PNG, TIFF, PGM or .npy. A value v becomes v x 4096 / FULL, rounded down. FULL is 2^bits of the file's unsigned type (256, "
-        "65536), 2^(bits - 1) of a signed one; floats need --full. Values below 0 become 0, values above 4,095 become 4,095; both are "
-        "counted and told. The frame's size goes into settings.bin, and with a new size the centre goes to the middle. solve and picture "
-        "take frames up to 1,024 x 1,024, the program itself up to 32,000 samples: --bin and --crop make frames smaller.",
+        "65536), 2^(bits - 1) of a signed one; floats, more than 16 bits, and 12 bits in words of 16 need --full. Values below 0 become 0, "
+        "values above 4,095 become 4,095; both are counted and told. The frame's size goes into settings.bin, and with a new size the "
+        "centre goes to the middle, unless it was calibrated. solve and picture take frames up to 1,024 x 1,024, the program itself up to "
+        "32,000 samples: --bin and --crop make frames smaller. How the frame was binned goes into made.json, where settings reads it.",
     )
     words.add_argument("image", metavar="IMAGE", help="the image file")
     words.add_argument("folder", metavar="FOLDER", help="where frame.bin and settings.bin go; made if it is not there")
-    words.add_argument("--bin", type=int, default=1, metavar="N", help="each sample the mean of N x N pixels; left over rows and columns are dropped")
-    words.add_argument("--crop", type=int, nargs=4, metavar=("LEFT", "TOP", "WIDTH", "HEIGHT"), help="a part of the image, in its pixels, before binning")
+    words.add_argument("--bin", type=whole(1), default=1, metavar="N", help="each sample the mean of N x N pixels; left over rows and columns are dropped")
+    words.add_argument("--crop", type=whole(), nargs=4, metavar=("LEFT", "TOP", "WIDTH", "HEIGHT"), help="a part of the image, in its pixels, before binning")
     words.add_argument("--dark", metavar="IMAGE", help="an image to take off first, pixel by pixel")
-    words.add_argument("--full", type=float, help="the value that would be just too large for the camera, as 4096 for 12 bits in 16-bit words")
+    words.add_argument("--full", type=number(above=0), help="the value that would be just too large for the camera, as 4096 for 12 bits in 16-bit words")
     words.add_argument("--flip", action="store_true", help="top row last, for a readout that is upside down")
     words.add_argument("--mirror", action="store_true", help="left column last, for a readout that is mirrored")
-    words.add_argument("--hdu", type=int, help="the unit of a FITS file; else the first with an image")
+    words.add_argument("--hdu", type=whole(), metavar="N", help="the unit of a FITS file that has several images, counted from 0")
+    words.add_argument("--plane", type=whole(), metavar="N", help="the plane of a cube, or the colour of a picture, counted from 0")
+    _add_force(words, "frame.bin that frame or simulate did not make, and move a calibrated centre to the middle")
 
 
 def _frame(words):
-    how = {name: getattr(words, name) for name in ("dark", "crop", "full", "flip", "mirror", "hdu")}
-    frame, settings = frames.convert(words.image, words.folder, binning=words.bin, **how)
+    how = {name: getattr(words, name) for name in ("dark", "crop", "full", "flip", "mirror", "hdu", "plane", "force")}
+    frame, settings, notes = frames.convert(words.image, words.folder, binning=words.bin, **how)
     low, high = int(frame.samples.min()), int(frame.samples.max())
     print(f"frame {settings.width} x {settings.height}, samples {low} to {high}, full scale {frame.full:g}")
-    for note in frame.notes:
+    for note in (*frame.notes, *notes):
         print(note)
     for count, what in ((frame.negative, "below 0, set to 0"), (frame.clipped, "above 4,095, set to 4,095"), (frame.blank, "without a value, set to 0")):
         if count:
@@ -101,27 +113,38 @@ def _add_catalogue(subcommands):
         "catalogue",
         _catalogue,
         "turns a star list into catalogue.bin",
-        "CSV, ECSV, VOTable or FITS table with columns for identity, right ascension, declination and magnitude; the usual names are known. "
-        "Text is hours and degrees; numbers have their column's unit, else they are degrees. Places are taken as they are: bring "
-        "them to the camera's date first if that matters. A catalogue has at most 512 stars.",
+        "CSV (commas, semicolons, tabs or bars), VizieR's TSV, ECSV, VOTable or FITS table with columns for identity, right ascension, "
+        "declination and magnitude; the usual names are known, those of HYG, Hipparcos and Yale too. Text is hours and degrees; numbers "
+        "have their column's unit, else they are degrees, unless they could be hours: then --hours or --degrees has to say. Places are "
+        "taken as they are: bring them to the camera's date first if that matters. A catalogue has at most 512 stars. What is left out of "
+        "the list is told with its lines.",
     )
     words.add_argument("stars", metavar="STARS", help="the star list")
     words.add_argument("folder", metavar="FOLDER", help="where catalogue.bin goes; made if it is not there")
     words.add_argument("--columns", nargs="+", metavar="NAME", help="the columns of identity, right ascension, declination, magnitude, in this order")
     words.add_argument("--number", action="store_true", help="count the rows from 1 for identities (and name three columns only)")
-    words.add_argument("--limit", type=float, metavar="MAG", help="leave fainter stars out")
-    words.add_argument("--around", type=float, nargs=2, metavar=("RA", "DEC"), help="only stars near this place, degrees")
-    words.add_argument("--within", type=float, metavar="DEG", help="how near, with --around")
-    words.add_argument("--brightest", type=int, metavar="N", help="of what is left, only the N brightest")
-    words.add_argument("--apart", type=float, metavar="DEG", help="then leave both stars of every closer pair out, by the library's own cut")
+    unit = words.add_mutually_exclusive_group()
+    unit.add_argument("--hours", action="store_true", help="right ascensions that are numbers are hours")
+    unit.add_argument("--degrees", action="store_true", help="right ascensions that are numbers are degrees, though none reaches 24")
+    words.add_argument("--limit", type=number(-100, 100), metavar="MAG", help="leave fainter stars out")
+    words.add_argument("--around", type=number(-360, 360), nargs=2, metavar=("RA", "DEC"), help="only stars near this place, degrees")
+    words.add_argument("--within", type=number(0, 180), metavar="DEG", help="how near, with --around")
+    words.add_argument("--brightest", type=whole(1), metavar="N", help="of what is left, only the N brightest")
+    words.add_argument("--apart", type=number(0, 180), metavar="DEG", help="then leave both stars of every closer pair out, by the library's own cut")
+    _add_force(words, "catalogue.bin that catalogue did not make")
 
 
 def _catalogue(words):
     if (words.around is None) != (words.within is None):
         raise Mistake("--around and --within go together")
-    which = {name: getattr(words, name) for name in ("columns", "number", "limit", "around", "within", "brightest", "apart")}
-    chosen = stars.convert(words.stars, words.folder, **which)
+    if words.around and abs(words.around[1]) > 90:
+        raise Mistake(f"--around: the declination {words.around[1]:g} is not -90 to 90")
+    hours = True if words.hours else False if words.degrees else None
+    which = {name: getattr(words, name) for name in ("columns", "number", "limit", "around", "within", "brightest", "apart", "force")}
+    chosen = stars.convert(words.stars, words.folder, hours=hours, **which)
     print(f"{len(chosen.records)} stars, from the columns {', '.join(chosen.columns.values())}")
+    for note in chosen.notes:
+        print(note)
     for reason, count in chosen.left_out.items():
         print(f"{count} left out: {reason}")
 
@@ -138,19 +161,25 @@ def _add_settings(subcommands):
         "Which of the two is the TOML file is told by its ending, .toml. It has threshold, needed, tolerance and lens, and may have width, "
         "height and centre (else those of the folder, and the frame's middle). tolerance is a number, or { angle = '60 arcsec', separation "
         "= '10 deg' }, which is 10^18 x |cos(separation + angle) - cos(separation)|. lens is { pixels = 64.0 }, or { millimetres = 12.0, "
-        "micrometres = 7.5 } for focal length and pixel pitch. centre is [column, row] in pixels.",
+        "micrometres = 7.5 } for focal length and pixel pitch, those of the camera before binning: how the folder's frame was binned is "
+        "read from made.json, unless binning says it. centre is [column, row] in the frame's pixels. Printed are the settings as they are "
+        "then, with the angle of a pixel and of the frame.",
     )
     words.add_argument("source", metavar="FILE.toml", help="the TOML file; or the folder to read")
     words.add_argument("target", metavar="FOLDER", help="where settings.bin goes; or the TOML file to write")
+    _add_force(words, "settings.bin or TOML file that the tools did not make, or that was changed since")
 
 
 def _settings(words):
+    binning = 1
     if Path(words.source).suffix == ".toml":
-        settings = configuration.convert(words.source, words.target)
+        settings, binning = configuration.convert(words.source, words.target, words.force)
     elif Path(words.target).suffix == ".toml":
-        settings = configuration.convert_back(words.source, words.target)
+        settings = configuration.convert_back(words.source, words.target, words.force)
     else:
         raise Mistake("one of the two must end in .toml")
+    if binning > 1:
+        print(f"# the folder's frame is binned {binning} x {binning}, and the lens with it")
     print(configuration.toml_of(settings), end="")
 
 
@@ -166,26 +195,43 @@ def _add_solve(subcommands):
         "Runs the chain and the rival call. Right ascension and declination are those of the camera's axis, which goes through the "
         "settings' centre; roll is the position angle of the frame's upward direction, from north through east; all in degrees, in the "
         "catalogue's own coordinates. A residual is the angle from a star's measured direction to where the matrix puts it; the attitude "
-        "rests on the first two named stars, so the first has none.",
+        "rests on the first two named stars, so the first has none. For a frame that is refused with 12, 13 or 14 the list, sky, noise and "
+        "saturated samples are told, and after 13 whether a mirror image, a wider tolerance, one needed fewer or another focal length near "
+        "by would fit.",
     )
     words.add_argument("folder", metavar="FOLDER", help="has settings.bin, catalogue.bin and frame.bin")
     words.add_argument("--json", action="store_true", help="print JSON")
 
 
 def _solve(words):
-    from . import solving
+    from . import diagnosis, solving
 
     settings, samples, catalogue = solving.read_folder(words.folder)
     try:
         solution = solving.solve(settings, samples, catalogue)
     except Refused as refusal:
-        if refusal.number == 13 and solving.mirrored_fits(settings, samples, catalogue):
-            raise refusal.with_note("in a mirror it would fit: is the readout mirrored? frame has --flip and --mirror") from refusal
-        raise
+        hints = _tell_refused(refusal, settings, samples, catalogue, words.json)
+        raise refusal.with_note("; ".join(hints) or None) from refusal
     if words.json:
-        print(json.dumps(solution.as_dict(), indent=1))
+        print(json.dumps({"refused": None, **solution.as_dict(), **diagnosis.measure(settings, samples, catalogue).as_dict()}, indent=1))
     else:
         _tell(solution)
+
+
+def _tell_refused(refusal, settings, samples, catalogue, as_json):
+    """Prints what was measured of a frame that has too few stars, or that nothing fits; hands back what to try."""
+    from . import diagnosis
+
+    if refusal.number not in diagnosis.OF_THE_FRAME:
+        return []
+    measured = diagnosis.measure(settings, samples, catalogue)
+    hints = diagnosis.what_would_fit(settings, samples, catalogue) if refusal.number == diagnosis.NO_FIT else {}
+    if as_json:
+        refused = {"number": refusal.number, "place": refusal.place, "sentence": refusal.sentence}
+        print(json.dumps({"refused": refused, **measured.as_dict(), "would_fit": hints}, indent=1))
+    else:
+        print("\n".join(measured.lines()))
+    return list(hints.values())
 
 
 def _tell(solution):
@@ -214,18 +260,18 @@ def _add_picture(subcommands):
         "catalogue stars stand where the matrix puts them. A frame without a solution is drawn too, with the refusal above it.",
     )
     words.add_argument("folder", metavar="FOLDER", help="has settings.bin, catalogue.bin and frame.bin")
-    words.add_argument("out", metavar="OUT.png", help="the picture")
-    words.add_argument("--pixel", type=int, nargs=2, metavar=("ROW", "COLUMN"), help="add this pixel's window, enlarged, and the reason in words")
-    words.add_argument("--dpi", type=int, default=100, help="dots an inch; the frame is 7.5 inches wide")
+    words.add_argument("out", metavar="OUT.png", help="the picture; its ending says which kind: .png, .pdf or .svg")
+    words.add_argument("--pixel", type=whole(), nargs=2, metavar=("ROW", "COLUMN"), help="add this pixel's window, enlarged, and the reason in words")
+    words.add_argument("--dpi", type=whole(20, 1200), default=100, help="dots an inch; the frame is 7.5 inches wide")
+    _add_force(words, "file OUT that the tools did not make")
 
 
 def _picture(words):
     from . import pictures, solving
 
-    if words.pixel and min(words.pixel) < 0:
-        raise Mistake("row and column are counted from 0")
+    kind = pictures.kind_of(words.out)
     figure = pictures.picture(*solving.read_folder(words.folder), pixel=words.pixel, dpi=words.dpi)
-    write_file(words.out, pictures.png(figure))
+    write_file(words.out, pictures.drawn(figure, kind), words.force)
     print(f"{words.out}: {figure.axes[0].get_title()}")
 
 
@@ -237,23 +283,21 @@ def _add_weather(words, **usual):
     from .simulation import Weather
 
     plain = replace(Weather(), **usual)
-    words.add_argument("--seed", type=int, default=0, help="the same seed gives the same frames")
-    words.add_argument("--spread", type=float, default=plain.spread, metavar="PIXELS", help="width (sigma) of a star's point spread")
-    words.add_argument("--background", type=float, default=plain.background, metavar="LEVEL", help="the sky's samples")
-    words.add_argument("--noise", type=float, default=plain.noise, metavar="LEVEL", help="their noise (sigma)")
-    words.add_argument("--hot", type=int, default=plain.hot, metavar="N", help="hot pixels")
-    words.add_argument("--false", type=int, default=plain.false, metavar="N", help="stars that the catalogue does not have, as bright as some of it")
-    words.add_argument("--jitter", type=float, default=plain.jitter, metavar="PIXELS", help="by how much (sigma) each star is moved")
+    words.add_argument("--seed", type=whole(), default=0, help="the same seed gives the same frames")
+    words.add_argument("--spread", type=number(above=0), default=plain.spread, metavar="PIXELS", help="width (sigma) of a star's point spread")
+    words.add_argument("--background", type=number(0, 4095), default=plain.background, metavar="LEVEL", help="the sky's samples")
+    words.add_argument("--noise", type=number(0, 4095), default=plain.noise, metavar="LEVEL", help="their noise (sigma)")
+    words.add_argument("--hot", type=whole(0, 10**6), default=plain.hot, metavar="N", help="hot pixels")
+    words.add_argument("--false", type=whole(0, 10**6), default=plain.false, metavar="N", help="stars that the catalogue does not have, as bright as some of it")
+    words.add_argument("--jitter", type=number(0, 1000), default=plain.jitter, metavar="PIXELS", help="by how much (sigma) each star is moved")
     words.add_argument("--mirror", action="store_true", help="columns the other way round, as by a mirrored readout")
-    words.add_argument("--faintest", type=float, metavar="MAG", help="a star of this magnitude reaches twice the threshold; else the catalogue's faintest")
-    words.add_argument("--least", type=int, default=plain.least, metavar="N", help="draw attitudes anew that have fewer catalogue stars in the frame")
+    words.add_argument("--faintest", type=number(-100, 100), metavar="MAG", help="a star of this magnitude reaches twice the threshold; else the catalogue's faintest")
+    words.add_argument("--least", type=whole(0, 512), default=plain.least, metavar="N", help="draw attitudes anew that have fewer catalogue stars in the frame")
 
 
 def _weather(words):
     from .simulation import Weather
 
-    if words.seed < 0:
-        raise Mistake("--seed must not be below 0")
     return Weather(*(getattr(words, name) for name in ("spread", "background", "noise", "hot", "false", "jitter", "mirror", "faintest", "least")))
 
 
@@ -267,7 +311,8 @@ def _add_simulate(subcommands):
         "the attitude and everything that was put into the frame.",
     )
     words.add_argument("folder", metavar="FOLDER", help="has settings.bin and catalogue.bin; frame.bin and truth.json go there")
-    words.add_argument("--pointing", type=float, nargs=3, metavar=("RA", "DEC", "ROLL"), help="degrees, as solve prints them; else random")
+    words.add_argument("--pointing", type=number(-360, 360), nargs=3, metavar=("RA", "DEC", "ROLL"), help="degrees, as solve prints them; else random")
+    _add_force(words, "frame.bin that simulate did not make, such as that of an image")
     _add_weather(words)
 
 
@@ -280,7 +325,7 @@ def _simulate(words):
     pointing = None if words.pointing is None else Pointing(*words.pointing)
     made = simulation.simulate(settings, catalogue, words.seed, _weather(words), pointing)
     truth = json.dumps(made.truth(), indent=1).encode()
-    write_folder(words.folder, {"frame.bin": made.samples.astype(SAMPLE).tobytes(), "truth.json": truth})
+    write_folder(words.folder, {"frame.bin": made.samples.astype(SAMPLE).tobytes(), "truth.json": truth}, "simulate", ("simulate",), words.force)
     where = made.pointing
     print(f"right ascension {where.ra:.5f}  declination {where.dec:+.5f}  roll {where.roll:.4f}  (degrees)")
     print(f"{len(made.stars)} catalogue stars, {len(made.false)} false stars, {len(made.hot)} hot pixels")
@@ -301,15 +346,17 @@ def _add_trial(subcommands):
         "Recommended is the pair that accepts most with no wrong name; of equal ones the larger needed count, then the smaller tolerance.",
     )
     words.add_argument("folder", metavar="FOLDER", help="has settings.bin and catalogue.bin")
-    words.add_argument("--frames", type=int, default=200, metavar="N", help="how many")
-    words.add_argument("--tolerances", type=int, nargs="+", metavar="T", help="else 1/16, 1/8, 1/4, 1/2 and 1 pixel at the separation of the shorter side")
-    words.add_argument("--needed", type=int, nargs="+", default=[3, 4, 5, 6], metavar="N", help="needed counts")
-    words.add_argument("--off", type=float, default=1.0, metavar="PIXELS", help="an axis farther off than this is a wrong pointing")
+    words.add_argument("--frames", type=whole(1, 10**7), default=200, metavar="N", help="how many")
+    words.add_argument("--tolerances", type=whole(0, 2**64 - 1), nargs="+", metavar="T", help="else 1/16, 1/8, 1/4, 1/2 and 1 pixel at the separation of the shorter side")
+    words.add_argument("--needed", type=whole(), nargs="+", default=[3, 4, 5, 6], metavar="N", help="needed counts")
+    words.add_argument("--off", type=number(0, 10000), default=1.0, metavar="PIXELS", help="an axis farther off than this is a wrong pointing")
     words.add_argument("--rivals", action="store_true", help="also count the accepted frames that have no rival, and wrong names among them")
-    words.add_argument("--processes", type=int, metavar="N", help="else as many as there are processors")
-    words.add_argument("--plot", metavar="OUT.png", help="draw the grid")
+    words.add_argument("--processes", type=whole(1, 1024), metavar="N", help="else as many as there are processors")
+    words.add_argument("--plot", metavar="OUT.png", help="draw the grid; .png, .pdf or .svg")
+    _add_force(words, "file OUT that the tools did not make")
     words.add_argument("--json", action="store_true", help="print JSON")
-    words.add_argument("--set", action="store_true", help="write the recommended pair into the folder's settings")
+    words.add_argument("--set", action="store_true", help="write the recommended pair into the folder's settings, if its wrong names are within --bound")
+    words.add_argument("--bound", type=number(0.0001, 100), default=1.0, metavar="PERCENT", help="the most wrong names that --set lets pass, 95 %% sure")
     _add_weather(words, hot=2, false=1, jitter=0.05)
 
 
@@ -317,16 +364,39 @@ def _trial(words):
     from . import trials
 
     settings, catalogue = read_settings(words.folder), read_catalogue(words.folder)
+    draw = _plotting(words, settings) if words.plot else lambda made: None
     tolerances = words.tolerances or trials.default_tolerances(settings)
     rest = {"seed": words.seed, "off": words.off, "rivals": words.rivals, "processes": words.processes}
     made = trials.trial(settings, catalogue, words.frames, tolerances, words.needed, _weather(words), **rest)
-    if words.plot:
-        from . import pictures
-
-        write_file(words.plot, pictures.png(pictures.trial_picture(made, settings)))
-    print(json.dumps(made.as_dict(), indent=1) if words.json else trials.table(made, settings))
-    best = made.recommended
-    if words.set and best is None:
-        raise Mistake("no pair can be recommended; the settings stay")
+    print(json.dumps(made.as_dict(), indent=1) if words.json else trials.table(made, settings), flush=True)
+    draw(made)
+    if made.stopped:
+        print(f"mnemathor: {made.frames} of {made.wanted} frames were tried", file=sys.stderr)
+        raise KeyboardInterrupt
     if words.set:
-        write_folder(words.folder, {"settings.bin": settings_bytes(replace(settings, tolerance=best.tolerance, needed=best.needed))})
+        _set(words, settings, made)
+
+
+def _plotting(words, settings):
+    """What draws the grid; whether that can be written is asked before the trial, not after it."""
+    from . import pictures
+
+    kind = pictures.kind_of(words.plot)
+    may_write(words.plot, words.force)
+    return lambda made: write_file(words.plot, pictures.drawn(pictures.trial_picture(made, settings), kind), words.force)
+
+
+def _set(words, settings, made):
+    """Writes the recommended pair into the settings, if so few wrong names are sure enough."""
+    from .trials import frames_for
+
+    best, bound = made.recommended, words.bound / 100
+    if best is None:
+        raise Mistake("no pair can be recommended; the settings stay")
+    if best.bound > bound:
+        raise Mistake(
+            f"wrong names are only known to be fewer than {100 * best.bound:.2f} %, and --bound wants {words.bound:g} %: the settings stay. "
+            f"--frames {frames_for(best, bound)} would do, if no wrong name is seen then"
+        )
+    changed = settings_bytes(replace(settings, tolerance=best.tolerance, needed=best.needed))
+    write_folder(words.folder, {"settings.bin": changed}, "trial", kept=("settings.bin",))

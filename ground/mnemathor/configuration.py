@@ -9,10 +9,13 @@ from astropy import units as u
 from astropy.coordinates import Angle
 
 from . import library
-from .folder import PIXEL, UNIT, Settings, read_settings, settings_bytes, settings_or_none, write_file, write_folder
+from .folder import PIXEL, RANGES, UNIT, Settings, read_settings, settings_bytes, settings_or_none
+from .keeping import record_of, text_mark, write_file, write_folder
 from .refusals import Mistake, Refused
 
-KEYS = {"width", "height", "threshold", "needed", "tolerance", "centre", "lens"}
+KEYS = {"width", "height", "threshold", "needed", "tolerance", "centre", "lens", "binning"}
+# Which numbers each refusal of the settings is about.
+ABOUT = {1: ("width", "height"), 3: ("threshold",), 5: ("cx", "cy"), 9: ("needed", "tolerance"), 19: ("focal",)}
 
 
 def tolerance_of(angle, separation):
@@ -32,10 +35,10 @@ def angle_of(tolerance, separation):
     return Angle(np.arccos(np.clip(cosine, -1, 1)) * u.rad - separation).to(u.arcsec)
 
 
-def read_toml(path, before=Settings()):
-    """The settings in a TOML file; size and centre may be left out, and are then those of `before`."""
+def read_toml(path, before=Settings(), binning=1):
+    """The settings in a TOML file; size and centre may be left out, and are then those of `before`, and so may how the frame was binned."""
     try:
-        told = tomllib.loads(Path(path).read_text())
+        told = tomllib.loads(Path(path).read_text(encoding="utf-8-sig"))
     except (OSError, UnicodeDecodeError, tomllib.TOMLDecodeError) as error:
         raise Mistake(f"{path} cannot be read: {error}") from error
     strange = set(told) - KEYS
@@ -51,8 +54,25 @@ def read_toml(path, before=Settings()):
         threshold=_whole(told, "threshold"),
         needed=_whole(told, "needed"),
         tolerance=_tolerance(told["tolerance"]),
-        focal=_focal(told["lens"]),
+        focal=_focal(told["lens"], _whole(told, "binning", binning)),
     )
+
+
+def pixel_angle(settings):
+    """The angle of one pixel in the frame's middle."""
+    return np.arctan(PIXEL / settings.focal) * u.rad
+
+
+def field(settings):
+    """The angles of the frame's width and height."""
+    return [2 * np.arctan(side * PIXEL / (2 * settings.focal)) * u.rad for side in (settings.width, settings.height)]
+
+
+def _lens_in_words(settings):
+    if not settings.focal:
+        return "no lens yet"
+    wide, tall = (angle.to_value(u.deg) for angle in field(settings))
+    return f"{pixel_angle(settings).to_value(u.arcsec):.1f} arc seconds a pixel in the middle; the field is {wide:.2f} x {tall:.2f} degrees"
 
 
 def toml_of(settings):
@@ -60,12 +80,14 @@ def toml_of(settings):
     meanings = [f"{angle_of(settings.tolerance, degrees * u.deg).value:.1f} arc seconds at {degrees} degrees" for degrees in (2, 5, 10)]
     return "\n".join(
         [
+            f"# {_lens_in_words(settings)}",
             f"width = {settings.width}",
             f"height = {settings.height}",
             f"threshold = {settings.threshold}",
             f"needed = {settings.needed}",
             f"tolerance = {settings.tolerance}  # {', '.join(meanings)}",
             f"centre = [{settings.cx / PIXEL!r}, {settings.cy / PIXEL!r}]  # column and row, in pixels",
+            "binning = 1  # the lens is in the frame's own pixels",
             "",
             "[lens]",
             f"pixels = {settings.focal / PIXEL!r}",
@@ -92,23 +114,30 @@ def check(settings):
             raise
 
 
-def convert(path, folder):
-    """Writes a TOML file's settings into a folder; hands them back."""
-    settings = read_toml(path, settings_or_none(folder))
+def convert(path, folder, force=False):
+    """Writes a TOML file's settings into a folder; hands them back, with how the folder's frame is binned."""
+    binning = record_of(folder, "frame.bin").get("binning", 1)
+    settings = read_toml(path, settings_or_none(folder), binning)
     contents = settings_bytes(settings)
     try:
         check(settings)
     except Refused as refusal:
-        size = f"{settings.width} x {settings.height}; the file may name them, else they are the folder's frame's"
-        raise refusal.with_note(size if refusal.number == 1 else str(path)) from refusal
-    write_folder(folder, {"settings.bin": contents})
-    return settings
+        raise refusal.with_note(_note(refusal.number, settings)) from refusal
+    write_folder(folder, {"settings.bin": contents}, "settings", force=force)
+    return settings, binning
 
 
-def convert_back(folder, path):
-    """Writes a folder's settings as a TOML file; hands them back."""
+def _note(number, settings):
+    """The values that a refusal of settings is about, and what they may be."""
+    told = "; ".join(f"{name} is {getattr(settings, name)}, and must be {RANGES[name]}" for name in ABOUT.get(number, ()))
+    return f"{told}; the file may name them, else they are the folder's frame's" if number == 1 else told
+
+
+def convert_back(folder, path, force=False):
+    """Writes a folder's settings as a TOML file; hands them back. Its first line has a mark of the others, so that a change by hand shows."""
     settings = read_settings(folder)
-    write_file(path, toml_of(settings).encode())
+    text = toml_of(settings).encode()
+    write_file(path, b"# Made by mnemathor settings, and overwritten by it unless a line is changed: " + text_mark(text) + b"\n" + text, force)
     return settings
 
 
@@ -123,7 +152,7 @@ def _with_centre(settings, centre):
     """The centre as column and row in pixels, to the nearest 1/256."""
     if centre is None:
         return settings
-    if not isinstance(centre, list) or len(centre) != 2 or not all(_is_number(part) for part in centre):
+    if not isinstance(centre, list) or len(centre) != 2 or not all(_is_number(part) and abs(part) < 2**31 for part in centre):
         raise Mistake(f"centre must be column and row in pixels, [79.5, 59.5], not {centre!r}")
     return replace(settings, cx=round(centre[0] * PIXEL), cy=round(centre[1] * PIXEL))
 
@@ -139,20 +168,35 @@ def _tolerance(told):
 
 def _angle(told, key):
     try:
-        return Angle(told)
+        angle = Angle(told)
+        if not np.isfinite(angle.value):
+            raise ValueError("not finite")
+        return angle
     except (ValueError, TypeError, u.UnitsError) as error:
         raise Mistake(f'tolerance: {key} must be an angle with its unit, as "40 arcsec", not {told!r}') from error
 
 
-def _focal(told):
-    """The whole focal length, from either form of the lens plate, by the library."""
+def _focal(told, binning):
+    """The whole focal length, from either form of the lens plate, by the library; a pixel of the frame is `binning` pixels of the plate wide."""
+    if binning < 1:
+        raise Mistake(f"binning must be at least 1, not {binning}")
     if isinstance(told, dict) and all(_is_number(part) for part in told.values()):
         if set(told) == {"pixels"}:
-            return library.focal_of_pixels(told["pixels"])
+            return _judged(library.focal_of_pixels, told, told["pixels"] / binning)
         if set(told) == {"millimetres", "micrometres"}:
-            return library.focal_of_millimetres(told["millimetres"], told["micrometres"])
+            return _judged(library.focal_of_millimetres, told, told["millimetres"], told["micrometres"] * binning)
     raise Mistake("lens wants { pixels = 64.0 }, or { millimetres = 12.0, micrometres = 7.5 } for focal length and pixel pitch")
 
 
+def _judged(focal, told, *plate):
+    """The focal length of a plate; a refusal says in pixels what the plate comes to."""
+    try:
+        return focal(*plate)
+    except Refused as refusal:
+        pixels = plate[0] if len(plate) == 1 else 1000 * plate[0] / plate[1] if plate[1] else float("nan")
+        given = ", ".join(f"{name} = {value:g}" for name, value in told.items())
+        raise refusal.with_note(f"{given} is a focal length of {pixels:g} pixels, and q, the focal length in pixels, must be 64 to 16,384") from refusal
+
+
 def _is_number(part):
-    return isinstance(part, (int, float)) and not isinstance(part, bool)
+    return isinstance(part, (int, float)) and not isinstance(part, bool) and abs(part) < 1e300

@@ -1,13 +1,14 @@
 """The camera's folder: settings.bin, catalogue.bin and frame.bin, as numpy reads and writes them."""
 
-import os
-import tempfile
 from dataclasses import dataclass, replace
 from pathlib import Path
 
 import numpy as np
 
 from .refusals import Mistake
+
+# The most that a file of a folder can sensibly have: far more than a frame of 1,024 x 1,024.
+MOST_BYTES = 2**26
 
 SETTINGS = np.dtype(
     [(name, ">u2") for name in ("width", "height", "threshold", "needed")]
@@ -25,6 +26,19 @@ MAGNITUDE = 1000
 LEVELS = 4096
 
 
+# What each number may be, as people say it; the library judges.
+RANGES = {
+    "width": "7 to 1,024 pixels",
+    "height": "7 to 1,024 pixels",
+    "threshold": "1 to 4,095",
+    "needed": "3 to 8",
+    "cx": "0 to 261,888 in 1/256 pixel, that is column 0 to 1,023",
+    "cy": "0 to 261,888 in 1/256 pixel, that is row 0 to 1,023",
+    "focal": "16,384 to 4,194,304 in 1/256 pixel, that is 64 to 16,384 pixels",
+    "tolerance": "0 to 10,000,000,000,000,000",
+}
+
+
 @dataclass(frozen=True)
 class Settings:
     """settings.bin in the file's own numbers: centre and focal length in 1/256 pixel."""
@@ -38,12 +52,21 @@ class Settings:
     focal: int = 0
     tolerance: int = 0
 
+    @property
+    def centred(self):
+        """Whether the centre is the frame's middle, as it is unless it was calibrated."""
+        return (self.cx, self.cy) == _middle(self.width, self.height)
+
     def of_size(self, width, height):
         """These settings for a frame of that size; with another size the centre goes to the frame's middle."""
         if (width, height) == (self.width, self.height):
             return self
-        middle = {"cx": PIXEL * (width - 1) // 2, "cy": PIXEL * (height - 1) // 2}
-        return replace(self, width=width, height=height, **middle)
+        cx, cy = _middle(width, height)
+        return replace(self, width=width, height=height, cx=cx, cy=cy)
+
+
+def _middle(width, height):
+    return PIXEL * (width - 1) // 2, PIXEL * (height - 1) // 2
 
 
 def read_settings(folder):
@@ -66,7 +89,7 @@ def settings_bytes(settings):
     for name in SETTINGS.names:
         number = 0 if name == "spare" else int(getattr(settings, name))
         if not 0 <= number <= np.iinfo(SETTINGS[name].newbyteorder("=")).max:
-            raise Mistake(f"{name} {number} does not fit the {SETTINGS[name].itemsize} bytes of settings.bin")
+            raise Mistake(f"{name} is {number}, and must be {RANGES[name]}")
         words[0][name] = number
     return words.tobytes()
 
@@ -85,50 +108,16 @@ def read_frame(folder, settings):
     return np.ascontiguousarray(samples.reshape(settings.height, settings.width), dtype=np.uint16)
 
 
-def write_folder(folder, files):
-    """Writes all files of a folder, given as name and bytes, or none: each comes whole, by a rename."""
-    folder = Path(folder)
-    waiting = []
-    try:
-        folder.mkdir(parents=True, exist_ok=True)
-        for name, contents in files.items():
-            waiting.append((_waiting(folder, name, contents), folder / name))
-        while waiting:
-            os.replace(*waiting[0])
-            waiting.pop(0)
-    except OSError as error:
-        raise Mistake(f"{folder} could not be written: {error.strerror or error}") from error
-    finally:
-        for left, _ in waiting:
-            os.unlink(left)
-
-
-def write_file(path, contents):
-    """Writes one file whole or not at all."""
-    path = Path(path)
-    if not path.parent.is_dir():
-        raise Mistake(f"{path.parent} is not a folder")
-    write_folder(path.parent, {path.name: contents})
-
-
-def _waiting(folder, name, contents):
-    """The bytes in a new file beside the one that they are for."""
-    handle, path = tempfile.mkstemp(prefix=f".{name}.", dir=folder)
-    with os.fdopen(handle, "wb") as file:
-        try:
-            file.write(contents)
-            file.flush()
-            os.fchmod(handle, 0o644)
-        except OSError:
-            os.unlink(path)
-            raise
-    return path
-
-
 def _read(path, kind):
     """A file as an array of one kind of record."""
+    if path.parent.exists() and not path.parent.is_dir():
+        raise Mistake(f"{path.parent} is not a folder")
+    if path.exists() and not path.is_file():
+        raise Mistake(f"{path} is not a file")
     try:
-        contents = Path(path).read_bytes()
+        if path.stat().st_size > MOST_BYTES:
+            raise Mistake(f"{path} has {path.stat().st_size} bytes, far too many")
+        contents = path.read_bytes()
     except OSError as error:
         raise Mistake(f"{path}: {error.strerror or error}") from error
     if len(contents) % kind.itemsize:

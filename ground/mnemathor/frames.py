@@ -6,8 +6,9 @@ import numpy as np
 from astropy.nddata import block_reduce
 
 from . import library
-from .folder import LEVELS, SAMPLE, settings_bytes, settings_or_none, write_folder
+from .folder import LEVELS, PIXEL, SAMPLE, settings_bytes, settings_or_none
 from .images import read_image
+from .keeping import record_of, write_folder
 from .refusals import Mistake, Refused
 
 
@@ -23,42 +24,84 @@ class Frame:
     notes: tuple
 
 
-def make_frame(path, dark=None, crop=None, binning=1, full=None, flip=False, mirror=False, hdu=None):
+def make_frame(path, dark=None, crop=None, binning=1, full=None, flip=False, mirror=False, hdu=None, plane=None):
     """The frame of an image file.
 
     A value v becomes v x 4096 / full, rounded down; full is 2^bits of the file's unsigned type, 2^(bits - 1) of a signed
-    one, and has to be said for floats. Below 0 it becomes 0 and above 4,095 it becomes 4,095, and both are counted.
+    one, and has to be said where the file does not settle it: for floats, for whole numbers of more than 16 bits, and for
+    12 bits in words of 16. Below 0 it becomes 0 and above 4,095 it becomes 4,095, and both are counted.
     """
-    image = read_image(path, hdu)
-    scale = image.full if full is None else full
-    if scale is None:
-        raise Mistake(f"{path} holds floats: say with --full which value would be just too large for the camera")
+    image = read_image(path, hdu, plane)
+    scale = _full(path, image) if full is None else full
     if not scale > 0:
         raise Mistake("--full must be above 0")
     values = image.values.astype(float)
     if dark is not None:
-        values = values - _dark(dark, values.shape, hdu)
+        values = values - _dark(dark, values.shape, hdu, plane)
     values = _binned(_cropped(values, crop), binning)
     values = values[:: -1 if flip else 1, :: -1 if mirror else 1]
     return _to_depth(values, scale, image.notes)
 
 
-def convert(path, folder, **how):
-    """Writes the frame of an image into a folder, with its size in the settings; hands back frame and settings."""
+def _full(path, image):
+    """One more than the camera's largest value, where the file tells it; else it is asked for."""
+    largest = np.max(image.values, initial=0, where=np.isfinite(image.values))
+    if image.full is None:
+        kind = "floats" if np.issubdtype(image.values.dtype, np.floating) else "whole numbers of more than 16 bits"
+        raise Mistake(f"{path} holds {kind}, the largest {largest:g}: say with --full which value would be just too large for the camera")
+    if 0 < largest < LEVELS < image.full:
+        raise Mistake(
+            f"{path} has room for values below {image.full}, and its largest is {largest:g}: for a camera of 12 bits say --full {LEVELS}, "
+            f"for a frame that is as dark as that --full {image.full}"
+        )
+    return image.full
+
+
+def convert(path, folder, force=False, **how):
+    """Writes the frame of an image into a folder, with its size in the settings; hands back frame, settings and what else is to be told."""
     frame = make_frame(path, **how)
     height, width = frame.samples.shape
-    settings = settings_or_none(folder).of_size(width, height)
+    before = settings_or_none(folder)
+    settings = before.of_size(width, height)
+    if before.width and settings != before and not before.centred and not force:
+        raise Mistake(
+            f"the settings have a centre of their own, column {before.cx / PIXEL:g}, row {before.cy / PIXEL:g}, for frames of {before.width} x "
+            f"{before.height}, and this one has {width} x {height}; --force puts the centre in the middle"
+        )
     # Whether the frame can be used at all is the library's to say; the highest threshold is the cheapest to ask with.
     try:
         library.list_stars(frame.samples, library.with_size(frame.samples, LEVELS - 1))
     except Refused as refusal:
-        raise refusal.with_note(f"the frame would be {width} x {height}; --bin and --crop make it smaller") from refusal
-    write_folder(folder, {"frame.bin": frame.samples.astype(SAMPLE).tobytes(), "settings.bin": settings_bytes(settings)})
-    return frame, settings
+        raise refusal.with_note(f"the frame would be {width} x {height}, and sides are 7 to 1,024; {_mend(width, height, how)}") from refusal
+    binning = how.get("binning", 1)
+    notes = _about_binning(binning, record_of(folder, "frame.bin").get("binning", binning), settings)
+    about = {"image": str(path), "binning": binning, "crop": how.get("crop")}
+    files = {"frame.bin": frame.samples.astype(SAMPLE).tobytes(), "settings.bin": settings_bytes(settings)}
+    write_folder(folder, files, "frame", ("frame", "simulate"), force, about, gone=("truth.json",), kept=("settings.bin",))
+    return frame, settings, notes
 
 
-def _dark(path, shape, hdu):
-    dark = read_image(path, hdu).values.astype(float)
+def _mend(width, height, how):
+    """What makes a frame of the wrong size a good one."""
+    if max(width, height) > 1024:
+        return "--bin and --crop make it smaller"
+    return "a smaller --bin or a larger --crop makes it larger" if how.get("binning", 1) > 1 or how.get("crop") else "the image is too small"
+
+
+def _about_binning(binning, before, settings):
+    """What binning does to the lens plate."""
+    notes = []
+    if binning > 1:
+        notes.append(
+            f"binned {binning} x {binning}: a pixel of the frame is {binning} pixels of the plate wide; settings reads that here, and the plate stays as it is"
+        )
+    if binning != before and settings.focal:
+        notes.append(f"WARNING: the settings' lens is for frames binned {before} x {before}; run settings again")
+    return notes
+
+
+def _dark(path, shape, hdu, plane):
+    dark = read_image(path, hdu, plane).values.astype(float)
     if dark.shape != shape:
         raise Mistake(f"the dark image {path} has {_size(dark.shape)} pixels, the image {_size(shape)}")
     return dark

@@ -14,7 +14,7 @@ import numpy as np
 
 from . import structures as c
 from .folder import PIXEL, STAR, UNIT, Settings
-from .refusals import Mistake, Refused
+from .refusals import Mistake, Refused, beside
 
 KINDS = ("dark", "beaten", "edge", "lone", "measured")
 SIDES = ("left", "right", "top", "bottom")
@@ -91,9 +91,8 @@ class Guide:
 
 
 def path():
-    """Where the shared library is: MNEMATHOR_LIBRARY, else the one that ./library makes."""
-    made = Path(__file__).resolve().parents[2] / "target" / "library" / "libmnemathor.so"
-    return Path(os.environ.get("MNEMATHOR_LIBRARY") or made)
+    """Where the shared library is: MNEMATHOR_LIBRARY, else the installed one, else the one that ./library makes."""
+    return Path(os.environ.get("MNEMATHOR_LIBRARY") or beside("libmnemathor.so", "target/library/libmnemathor.so"))
 
 
 @cache

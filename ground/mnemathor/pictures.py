@@ -3,6 +3,7 @@
 import io
 import textwrap
 from collections import Counter
+from pathlib import Path
 
 import matplotlib
 
@@ -10,7 +11,8 @@ matplotlib.use("Agg")
 
 import numpy as np
 from astropy import units as u
-from astropy.visualization import AsinhStretch, ImageNormalize, ZScaleInterval
+from astropy.stats import sigma_clipped_stats
+from astropy.visualization import AsinhStretch, ImageNormalize
 from matplotlib.figure import Figure
 from matplotlib.lines import Line2D
 from matplotlib.patches import Circle, Rectangle
@@ -19,12 +21,18 @@ from . import library
 from .attitude import in_frame, vectors
 from .configuration import angle_of
 from .folder import PIXEL
-from .refusals import Refused
-from .solving import Star, solve
+from .diagnosis import MIRROR, NO_FIT
+from .refusals import Mistake, Refused
+from .solving import Star, mirrored_fits, solve
 from .trials import shorter_side
 
 NAMED, UNNAMED, EDGE, LONE, UNLISTED, CATALOGUE, ASKED = "#39d353", "#ff9f1c", "#ffe14d", "#ff4d6d", "#7aa2ff", "#27d3f5", "#ff5cf4"
-RING = 5.0
+# A ring is this part of the frame's width, and no smaller than a star's window.
+RING, WINDOW = 1 / 40, 3.5
+# The legend's room, in inches.
+LEGEND = 0.6
+# What each kind of file says about who made it.
+KINDS = {"png": {"Software": "mnemathor"}, "pdf": {"Creator": "mnemathor", "CreationDate": None}, "svg": {"Creator": "mnemathor", "Date": None}}
 # At most so many pixels are asked about; frames with more above the threshold are no frames of stars.
 ASKS = 20000
 
@@ -38,23 +46,41 @@ def picture(settings, samples, catalogue, pixel=None, dpi=100):
     _show(axes, samples)
     stars = solution.stars if solution else [_unnamed(number, star) for number, star in enumerate(report.stars)]
     for star in stars:
-        _ring(axes, star, stars)
+        _ring(axes, star, stars, ring(settings))
     marks = bright_pixels(samples, settings, report)
     counts = _mark(axes, marks, stars)
     if solution:
         counts["catalogue"] = _mark_catalogue(axes, solution, catalogue, settings)
     axes.set_title(_title(solution, refusal), fontsize=9)
-    _legend(axes, stars, counts)
+    _legend(figure.axes[-1], stars, counts)
     if pixel is not None:
         _window(figure, samples, settings, *pixel)
     return figure
 
 
+def ring(settings):
+    """A ring's radius, in pixels of the frame."""
+    return max(WINDOW, RING * max(settings.width, 0.75 * settings.height))
+
+
+def kind_of(path):
+    """The kind of picture that a file's ending stands for."""
+    kind = Path(path).suffix.lower().lstrip(".")
+    if kind not in KINDS:
+        raise Mistake(f"{path} must end in .png, .pdf or .svg")
+    return kind
+
+
+def drawn(figure, kind):
+    """A figure as the bytes of a file of that kind."""
+    contents = io.BytesIO()
+    figure.savefig(contents, format=kind, metadata=KINDS[kind])
+    return contents.getvalue()
+
+
 def png(figure):
     """A figure as the bytes of a PNG file."""
-    contents = io.BytesIO()
-    figure.savefig(contents, format="png", metadata={"Software": "mnemathor"})
-    return contents.getvalue()
+    return drawn(figure, "png")
 
 
 def bright_pixels(samples, settings, report):
@@ -129,31 +155,32 @@ def _grid(axes, trial, tolerances, needed, value, colours):
 
 
 def _try_to_solve(settings, samples, catalogue):
-    """The solution, or the refusal: a frame without a solution has a picture too."""
+    """The solution, or the refusal: a frame without a solution has a picture too, and is told if a mirror would help."""
     try:
         return solve(settings, samples, catalogue), None
     except Refused as refusal:
-        return None, refusal
+        mirrored = refusal.number == NO_FIT and mirrored_fits(settings, samples, catalogue)
+        return None, refusal.with_note(MIRROR) if mirrored else refusal
 
 
 def _figure(settings, with_window, dpi):
-    """A figure for a frame of that shape, with a place for a window where one is asked for."""
+    """A figure for a frame of that shape, with a place for a window where one is asked for, and one below for the legend."""
     wide = 7.5
-    tall = min(10.0, max(3.0, 0.92 * wide * settings.height / settings.width)) + 1.5
-    figure = Figure(figsize=(wide + (3.6 if with_window else 0), tall), dpi=dpi, layout="constrained")
-    if with_window:
-        figure.subplots(1, 2, width_ratios=[2.1, 1])
-    else:
-        figure.subplots()
-    for axes in figure.axes:
-        axes.set_anchor("N")
+    tall = min(10.0, max(3.0, 0.92 * wide * settings.height / settings.width)) + 1.0
+    figure = Figure(figsize=(wide + (3.6 if with_window else 0), tall + LEGEND), dpi=dpi, layout="constrained")
+    columns = [2.1, 1] if with_window else [1]
+    places = figure.add_gridspec(2, len(columns), width_ratios=columns, height_ratios=[tall, LEGEND])
+    for column in range(len(columns)):
+        figure.add_subplot(places[0, column]).set_anchor("N")
+    figure.add_subplot(places[1, :]).set_axis_off()
     return figure
 
 
 def _show(axes, samples):
-    """The frame itself: from sky to the brightest, faint things lifted."""
-    low, high = ZScaleInterval().get_limits(samples)
-    high = max(high, np.percentile(samples, 99.9), low + 1)
+    """The frame itself: from just below the sky to the brightest, faint things lifted above the noise."""
+    _, sky, noise = sigma_clipped_stats(samples, sigma=3.0, maxiters=5)
+    low, high = sky - noise, sky + 50 * noise if noise else float(samples.max())
+    high = max(high, low + 1)
     axes.imshow(samples, cmap="gray", origin="upper", interpolation="nearest", norm=ImageNormalize(vmin=low, vmax=high, stretch=AsinhStretch(0.2), clip=True))
     axes.set_xlabel("column")
     axes.set_ylabel("row")
@@ -165,27 +192,27 @@ def _unnamed(number, star):
     return Star(number, star.x / PIXEL, star.y / PIXEL, star.brightness)
 
 
-def _ring(axes, star, others):
+def _ring(axes, star, others, radius):
     """A ring with the star's number and identity; a star without a name has a broken ring of another colour."""
     named = star.identity is not None
     colour = NAMED if named else UNNAMED
-    axes.add_patch(Circle((star.column, star.row), RING, fill=False, edgecolor=colour, linewidth=1.4, linestyle="-" if named else "--"))
-    across, down, side, height = _label_place(axes, star, others)
+    axes.add_patch(Circle((star.column, star.row), radius, fill=False, edgecolor=colour, linewidth=1.4, linestyle="-" if named else "--"))
+    across, down, side, height = _label_place(axes, star, others, radius)
     text = f"{star.number}: {star.identity if named else '-'}"
     axes.text(star.column + across, star.row + down, text, color=colour, fontsize=7.5, ha=side, va=height, clip_on=True)
 
 
-def _label_place(axes, star, others):
+def _label_place(axes, star, others, radius):
     """On which side of its ring a label stands: that with the most room to the other stars and to the frame's sides."""
-    away = RING + 1
+    away = 1.2 * radius
     places = [(away, 0, "left", "center"), (-away, 0, "right", "center"), (0, away, "center", "top"), (0, -away, "center", "bottom")]
     wide, tall = axes.get_xlim()[1], axes.get_ylim()[0]
 
     def room(place):
         column, row = star.column + 2.5 * place[0], star.row + 1.5 * place[1]
         nearest = min((np.hypot(other.column - column, other.row - row) for other in others if other is not star), default=np.inf)
-        inside = 4 < column < wide - 4 and 2 < row < tall - 2
-        return (inside, min(nearest, 3 * RING))
+        inside = 0.8 * radius < column < wide - 0.8 * radius and 0.4 * radius < row < tall - 0.4 * radius
+        return (inside, min(nearest, 3 * radius))
 
     return max(places, key=room)
 
@@ -230,13 +257,13 @@ def _legend(axes, stars, counts):
     shown = [Line2D([], [], marker=marker, color=colour, fillstyle="none", linestyle="", label=label) for label, marker, colour, count in entries if count]
     if shown:
         look = {"fontsize": 8, "facecolor": "#222222", "edgecolor": "#222222", "labelcolor": "white"}
-        axes.legend(handles=shown, loc="upper center", bbox_to_anchor=(0.5, -0.1), ncols=min(len(shown), 3), **look)
+        axes.legend(handles=shown, loc="center", ncols=min(len(shown), 3), **look)
 
 
 def _window(figure, samples, settings, row, column):
     """The window of a pixel, enlarged, with every sample and the reason in words."""
     reason = library.reason(samples, settings, row, column)
-    frame, axes = figure.axes
+    frame, axes = figure.axes[:2]
     frame.add_patch(Rectangle((column - 3.5, row - 3.5), 7, 7, fill=False, edgecolor=ASKED, linewidth=1.2))
     top, left = max(row - 3, 0), max(column - 3, 0)
     part = samples[top : row + 4, left : column + 4]

@@ -4,7 +4,17 @@ import re
 from functools import cache
 from pathlib import Path
 
-RULES = Path(__file__).resolve().parents[2] / "docs" / "RULES.md"
+PACKAGE = Path(__file__).resolve().parent
+# The checkout that the package stands in; where it was installed, what it needs of that stands beside it.
+CHECKOUT = PACKAGE.parents[1]
+
+
+def beside(name, place):
+    """A file that was installed beside the package, else the checkout's."""
+    return PACKAGE / name if (PACKAGE / name).exists() else CHECKOUT / place
+
+
+RULES = beside("RULES.md", "docs/RULES.md")
 
 
 @cache
@@ -20,6 +30,10 @@ def sentences():
 
 class Mistake(Exception):
     """What was handed in cannot be used; the message says why, and nothing was written."""
+
+
+class Unwritten(Mistake):
+    """Something could not be written: a full disk, a folder that belongs to somebody else."""
 
 
 class Refused(Mistake):

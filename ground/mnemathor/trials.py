@@ -1,6 +1,8 @@
 """Settings chosen by trial: many simulated frames, solved for every tolerance and needed count of a grid."""
 
+import math
 import multiprocessing
+import signal
 from dataclasses import asdict, dataclass, replace
 
 import numpy as np
@@ -9,7 +11,7 @@ from tqdm import tqdm
 
 from . import library
 from .attitude import angle_between, turn_between, vectors
-from .configuration import angle_of, tolerance_of
+from .configuration import angle_of, pixel_angle, tolerance_of
 from .folder import PIXEL, STAR, UNIT
 from .refusals import Mistake, Refused
 from .simulation import simulate
@@ -69,6 +71,12 @@ class Trial:
     seed: int
     off: float
     drawn: int
+    wanted: int | None = None
+
+    @property
+    def stopped(self):
+        """Whether it was interrupted before the last frame that was wanted."""
+        return self.wanted is not None and self.frames < self.wanted
 
     @property
     def recommended(self):
@@ -84,14 +92,14 @@ class Trial:
         return {"frames": self.frames, "seed": self.seed, "off": self.off, "drawn": self.drawn, "recommended": pair, "cells": cells}
 
 
+def frames_for(cell, bound):
+    """How many frames would bring a pair's bound down to this one, with no wrong name among them and as many accepted of each hundred."""
+    return math.ceil(math.log(0.05) / math.log(1 - bound)) * cell.frames // cell.accepted + 1
+
+
 def none_seen(tries):
     """The largest rate at which none of so many tries fails with a chance of 5 %: 1 - 0.05^(1 / tries), about 3 / tries."""
     return 1 - 0.05 ** (1 / tries) if tries else None
-
-
-def pixel_angle(settings):
-    """The angle of one pixel in the frame's middle."""
-    return np.arctan(PIXEL / settings.focal) * u.rad
 
 
 def shorter_side(settings):
@@ -101,6 +109,7 @@ def shorter_side(settings):
 
 def default_tolerances(settings):
     """The grid's tolerances for a camera."""
+    _has_lens(settings)
     return [tolerance_of(part * pixel_angle(settings), shorter_side(settings)) for part in PARTS]
 
 
@@ -109,15 +118,31 @@ def trial(settings, catalogue, frames, tolerances, needed, weather, seed=0, off=
     pairs = [replace(settings, tolerance=int(t), needed=int(n)) for t in tolerances for n in needed]
     if frames < 1 or not pairs:
         raise Mistake("a trial wants at least one frame, one tolerance and one needed count")
-    if settings.focal == 0:
-        raise Mistake("the folder's settings have no lens yet")
+    _has_lens(settings)
     for pair in pairs:
         _refuse_early(pair, catalogue)
     job = (settings, catalogue, _index(settings, catalogue), pairs, weather, seed, rivals)
-    results = list(_run(job, frames, processes, quiet))
+    results = _gathered(_run(job, frames, processes, quiet))
     limit = (off * pixel_angle(settings)).to_value(u.arcsec)
     cells = tuple(_cell(pair, [outcomes[k] for outcomes, _ in results], limit) for k, pair in enumerate(pairs))
-    return Trial(cells, frames, seed, off, sum(draws for _, draws in results))
+    return Trial(cells, len(results), seed, off, sum(draws for _, draws in results), frames)
+
+
+def _has_lens(settings):
+    if settings.focal == 0:
+        raise Mistake("the folder's settings have no lens yet: run settings first")
+
+
+def _gathered(results):
+    """All results; where the trial is interrupted, those that were there."""
+    gathered = []
+    try:
+        for result in results:
+            gathered.append(result)
+    except KeyboardInterrupt:
+        if not gathered:
+            raise
+    return gathered
 
 
 def _refuse_early(settings, catalogue):
@@ -142,8 +167,9 @@ _job = None
 
 
 def _start(job):
-    """Keeps the job in a process of the pool."""
+    """Keeps the job in a process of the pool, which leaves an interruption to the one that started it."""
     global _job
+    signal.signal(signal.SIGINT, signal.SIG_IGN)
     _job = job
 
 
@@ -228,8 +254,8 @@ def table(trial, settings):
     """A trial as lines to read."""
     side = shorter_side(settings)
     lines = [
-        f"{trial.frames} frames, seed {trial.seed}; {trial.drawn - trial.frames} more attitudes had too few stars",
-        f"{'tolerance':>17} {f'at {side.to_value(u.deg):.1f}°':>9} {'needed':>6} {'accepted':>8} {'wrong names':>16} {'wrong pointing':>16}"
+        f"{trial.frames} frames, seed {trial.seed}; {trial.drawn - trial.frames} more attitudes had too few stars, and count in `of all`",
+        f"{'tolerance':>17} {f'at {side.to_value(u.deg):.1f}°':>9} {'needed':>6} {'accepted':>8} {'of all':>7} {'wrong names':>16} {'wrong pointing':>16}"
         f" {'axis error':>14} {'turn error':>14}",
     ]
     for cell in trial.cells:
@@ -237,7 +263,7 @@ def table(trial, settings):
         counts = f"{_counted(cell.wrong_names, cell.bound):>16} {_counted(cell.wrong_pointing, cell.bound):>16}"
         errors = f"{_errors(cell.axis_median, cell.axis_95):>14} {_errors(cell.turn_median, cell.turn_95):>14}"
         alone = "" if cell.alone is None else f"  {100 * cell.alone / cell.frames:.1f}% alone, wrong names {_counted(cell.wrong_alone, none_seen(cell.alone))}"
-        lines.append(f"{cell.tolerance:>17} {angle:>9} {cell.needed:>6} {100 * cell.accepted / cell.frames:>7.1f}% {counts} {errors}{alone}")
+        lines.append(f"{cell.tolerance:>17} {angle:>9} {cell.needed:>6} {100 * cell.accepted / cell.frames:>7.1f}% {100 * cell.accepted / trial.drawn:>6.1f}% {counts} {errors}{alone}")
     return "\n".join([*lines, _advice(trial)])
 
 

@@ -11,6 +11,7 @@ import pytest
 from mnemathor import commands, library, stars
 from mnemathor.configuration import read_toml
 from mnemathor.folder import STAR, Settings, settings_bytes
+from mnemathor.keeping import write_folder
 
 HERE = Path(__file__).resolve().parents[1]
 ROOT = HERE.parent
@@ -37,9 +38,8 @@ def catalogue():
 def folder(tmp_path, settings, catalogue):
     """A folder with settings and catalogue, and no frame yet."""
     where = tmp_path / "camera"
-    where.mkdir()
-    (where / "settings.bin").write_bytes(settings_bytes(settings))
-    (where / "catalogue.bin").write_bytes(catalogue.tobytes())
+    write_folder(where, {"settings.bin": settings_bytes(settings)}, "settings")
+    write_folder(where, {"catalogue.bin": catalogue.tobytes()}, "catalogue")
     return where
 
 

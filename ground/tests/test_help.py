@@ -17,7 +17,7 @@ def test_help_lists_all_subcommands_a_line_each(mnemathor):
         answer = mnemathor(word)
         assert answer.returncode == 0 and answer.stderr == ""
         named = re.findall(r"^\./mnemathor ([a-z]+) [A-Z\[]", answer.stdout, re.MULTILINE)
-        assert named == DESK + GROUND
+        assert named == DESK + GROUND + ["install"]
 
 
 def test_the_lines_are_those_of_the_package(mnemathor):
@@ -28,7 +28,7 @@ def test_the_lines_are_those_of_the_package(mnemathor):
         assert lines[told.dest] == told.help
 
 
-@pytest.mark.parametrize("name", DESK + GROUND)
+@pytest.mark.parametrize("name", [*DESK, *GROUND, "install"])
 def test_every_subcommand_has_help(mnemathor, name):
     answer = mnemathor(name, "--help")
     assert answer.returncode == 0 and answer.stderr == ""

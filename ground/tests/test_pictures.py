@@ -1,6 +1,7 @@
 """Pictures looked at by their content: rings where the stars are, marks where the library says, words for the pixel asked about."""
 
 import io
+from dataclasses import replace
 
 import matplotlib.colors
 import numpy as np
@@ -49,7 +50,7 @@ def test_rings_are_where_the_stars_are(settings, catalogue, orion):
     figure = pictures.picture(settings, orion.samples, catalogue)
     solution = solving.solve(settings, orion.samples, catalogue)
     image, at = drawn(figure)
-    radius = at(pictures.RING, 0)[1] - at(0, 0)[1]
+    radius = at(pictures.ring(settings), 0)[1] - at(0, 0)[1]
     assert radius > 10
     for star in solution.stars:
         colour, other = (pictures.NAMED, pictures.UNNAMED) if star.identity is not None else (pictures.UNNAMED, pictures.NAMED)
@@ -131,3 +132,41 @@ def test_pictures_that_cannot_be_made(run, folder, tmp_path):
     assert status == 1 and err.startswith("refused 15 0: the pixel asked for is outside the frame")
     assert run("picture", folder, tmp_path / "out.png", "--pixel", -1, 0)[0] == 2
     assert not (tmp_path / "out.png").exists()
+
+
+@pytest.mark.parametrize("size", [(200, 160), (968, 548), (100, 100), (60, 400), (1024, 100)])
+@pytest.mark.parametrize("window", [False, True])
+def test_rings_and_legend_fit_the_frame(settings, catalogue, size, window):
+    """A ring is as large on paper whatever the frame's size, and the legend is whole."""
+    camera = replace(settings, focal=max(16384, 512 * max(size))).of_size(*size)
+    made = simulate(camera, catalogue, 6, Weather(hot=4, false=6), Pointing(83.5, -1, 350))
+    figure = pictures.picture(camera, made.samples, catalogue, pixel=(size[1] // 2, size[0] // 2) if window else None)
+    image, at = drawn(figure)
+    radius = at(pictures.ring(camera), 0)[1] - at(0, 0)[1]
+    assert 12 < radius < 45
+    box = figure.axes[-1].get_legend().get_window_extent().transformed(figure.transFigure.inverted())
+    assert box.x0 > 0 and box.y0 > 0 and box.x1 < 1 and box.y1 < 1
+
+
+def test_the_stretch_goes_by_sky_and_noise(settings, catalogue, orion):
+    """One star that is a thousand times as bright makes the others no darker."""
+    bright = orion.samples.copy()
+    bright[100:110, 20:30] = 4095
+    limits = [pictures.picture(settings, samples, catalogue).axes[0].images[0].norm for samples in (orion.samples, bright)]
+    assert limits[0].vmin == pytest.approx(limits[1].vmin, abs=2) and limits[0].vmax == pytest.approx(limits[1].vmax, rel=0.1)
+
+
+def test_the_mirror_is_told_on_the_picture(run, folder, tmp_path):
+    assert run("simulate", folder, "--seed", 2, "--least", 7, "--mirror")[0] == 0
+    assert "is the readout mirrored?" in run("picture", folder, tmp_path / "out.png")[1].replace("\n", " ")
+
+
+def test_the_ending_says_which_kind(run, folder, tmp_path):
+    assert run("simulate", folder)[0] == 0
+    for ending, start in (("png", b"\x89PNG"), ("PDF", b"%PDF"), ("svg", b"<?xml")):
+        out = tmp_path / f"out.{ending}"
+        assert run("picture", folder, out)[0] == 0 and out.read_bytes().startswith(start)
+        assert run("picture", folder, out)[0] == 0
+    for name in ("out.jpg", "out"):
+        status, _, err = run("picture", folder, tmp_path / name)
+        assert status == 2 and "must end in .png, .pdf or .svg" in err and not (tmp_path / name).exists()

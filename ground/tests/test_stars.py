@@ -68,7 +68,7 @@ def test_gaps_are_left_out_and_counted(tmp_path, run):
     stars["vmag"] = MaskedColumn(MAG, mask=[False, True, False])
     stars.write(tmp_path / "gaps.ecsv")
     found, out = catalogue_of(run, tmp_path / "gaps.ecsv", tmp_path / "f")
-    assert found["identity"].tolist() == [3, 5] and "1 left out: a gap in the row" in out
+    assert found["identity"].tolist() == [3, 5] and "1 left out: a gap in the row (line 11)" in out
 
 
 def test_choices(tmp_path, run):
@@ -101,9 +101,6 @@ def bad_tables(tmp_path):
     twice = table()
     twice["id"] = [3, 7, 3]
     twice.write(tmp_path / "twice.csv")
-    faint = table()
-    faint["vmag"] = [1.0, 2.0, 12.001]
-    faint.write(tmp_path / "faint.csv")
     names = table()
     names["id"] = ["Vega", "Deneb", "Altair"]
     names.write(tmp_path / "names.csv")
@@ -114,11 +111,10 @@ def bad_tables(tmp_path):
     (tmp_path / "torn.fits").write_bytes(b"SIMPLE")
     good = tmp_path / "good.csv"
     return [
-        ((BRIGHT,), 1, "4308 stars were chosen; --limit, --around and --brightest choose"),
+        ((BRIGHT,), 1, "4308 stars were chosen, and a catalogue has 1 to 512; --limit, --around and --brightest choose"),
         ((good, "--limit", -5), 1, "refused 6 0"),
         ((good, "--apart", 180), 1, "refused 21 0"),
-        ((tmp_path / "twice.csv",), 1, f"refused 7 1: {sentences()[7]} (the star of identity 3"),
-        ((tmp_path / "faint.csv",), 1, f"refused 7 1: {sentences()[7]} (the star of identity 5, magnitude 12.001"),
+        ((tmp_path / "twice.csv",), 1, f"refused 7 1: {sentences()[7]} (the star of identity 3, lines 2, 4, is given 2 times"),
         ((tmp_path / "names.csv",), 2, "--number"),
         ((tmp_path / "strange.csv",), 2, "no column found for identity, ra, dec, magnitude; name them with --columns, of a, b, c"),
         ((tmp_path / "half.csv",), 2, "no whole number"),

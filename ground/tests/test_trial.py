@@ -53,9 +53,36 @@ def test_a_small_trial(run, folder, tmp_path):
         assert each["frames"] == 12 == each["accepted"] + sum(each["refusals"].values())
         assert each["wrong_names"] <= each["accepted"]
     assert one["cells"][2]["wrong_names"] > 0 and one["recommended"]["needed"] == 4
-    status, out, _ = run(*words, "--set")
+    status, out, _ = run(*words, "--set", "--bound", 30)
     assert status == 0 and "recommended: tolerance 200000000000000, needed 4" in out and "exact binomial" in out
     assert (read_settings(folder).tolerance, read_settings(folder).needed) == (2 * 10**14, 4)
+
+
+def test_set_wants_a_bound(run, folder):
+    words = ("trial", folder, "--frames", 12, "--seed", 3, "--needed", 4, "--tolerances", 2 * 10**14, "--set")
+    before = read_settings(folder)
+    status, out, err = run(*words)
+    assert status == 2 and "recommended" in out and read_settings(folder) == before
+    assert "--bound wants 1 %: the settings stay" in err
+    frames = int(err.split("--frames ")[1].split()[0])
+    accepted = json.loads(run(*words[:-1], "--json")[1])["cells"][0]["accepted"]
+    assert none_seen(frames * accepted // 12) <= 0.01 < none_seen(frames * accepted // 12 - 5)
+    assert run(*words, "--bound", 40)[0] == 0 and read_settings(folder).needed == 4
+
+
+def test_both_percentages_are_told(run, folder):
+    words = ("trial", folder, "--frames", 12, "--needed", 4, "--tolerances", 2 * 10**14)
+    told = json.loads(run(*words, "--json")[1])
+    out = run(*words)[1]
+    accepted = told["cells"][0]["accepted"]
+    assert told["drawn"] > 12 and "of all" in out
+    assert f"{100 * accepted / 12:.1f}%" in out and f"{100 * accepted / told['drawn']:.1f}%" in out
+
+
+def test_a_plot_that_cannot_be_written_is_told_before_the_trial(run, folder, tmp_path):
+    for out, told in ((tmp_path / "no" / "t.png", "is not a folder"), (tmp_path / "t.jpg", "must end in")):
+        status, printed, err = run("trial", folder, "--frames", 100000, "--plot", out)
+        assert (status, printed) == (2, "") and told in err
 
 
 def test_a_mirrored_readout_is_not_accepted(run, folder):
@@ -74,6 +101,6 @@ def test_rivals_are_counted(run, folder):
 
 
 def test_trials_that_are_refused(run, folder):
-    for words, told in ((("--needed", 9), "refused 9 0"), (("--tolerances", 10**16 + 1), "refused 9 0"), (("--frames", 0), "at least one frame")):
+    for words, told in ((("--needed", 9), "refused 9 0"), (("--tolerances", 10**16 + 1), "refused 9 0"), (("--frames", 0), "0 is no whole number from 1")):
         status, out, err = run("trial", folder, *words)
         assert status in (1, 2) and told in err and out == ""
