@@ -1,56 +1,33 @@
--- The votes for a direction as a sum over the other directions, each by a span around its dot product. Assumes nothing.
+-- The votes of a part of the directions as a sum over them, and the two parts together. Assumes nothing.
 use mathlib.Core.Bool.{Bool, true, false, cond, not, _&&_}
 use mathlib.Core.Path.{_≡_, refl, sym, ap, _∙_}
 use mathlib.Core.List.{List}
 use Prim.Native.Nat.{ℕ, zero, suc, _+_, _*_, _-_, _/_, _≤_, _<_}
-use native.Mathlib.Decide.{ℕ-discrete, decLt}
+use native.Mathlib.Decide.{ℕ-discrete}
 use native.Mathlib.Omega.{arith}
-use borrow.Author.Tests.{lt-ltb, le-ltb, eq-eqb, ne-eqb}
-use lib.Dec.{ltb, eqb}
+use borrow.Author.Tests.{eq-eqb, ne-eqb}
+use lib.Dec.{ltb}
 use lib.IntN.{ℤ, pos, negsuc}
 use lib.ListN.{length, getD}
-use lib.Seq.{ext-getD}
-use mir.Syntax.{w64}
-use mir.Val.{SFits}
 use Rattle.numbers.specs.Within.{Within}
 use Rattle.vectors.specs.Triples.{triples, Listed, pairDot}
 use Rattle.vectors.specs.Agree.{agreeing}
-use Rattle.vectors.specs.Laws.{pair-within}
 use Rattle.counting.specs.Number.{one, number, pairs}
 use Rattle.counting.specs.NumberLaws.{number-none, number-most}
-use Rattle.votes.specs.Votes.{other, isVote, votesOf, countersOf}
-use Rattle.votes.specs.Laws.{counters-length, counter-within, counter-beyond}
-use Rattle.index_records.specs.Format.{highAt, lowAt, keyAt, encoded}
+use Rattle.votes.specs.Votes.{other}
+use Rattle.votes.specs.Progress.{Setting, voteBy, from, soFar}
+use Rattle.index_records.specs.Format.{highAt, encoded}
 use Rattle.index_records.specs.Order.{sorted}
 use Rattle.index_records.specs.Read.{Bytes, low-most}
 use Rattle.index.specs.Raised.{raised}
 use Rattle.index.specs.Index.{pairsOf}
 use Rattle.index.specs.IndexSteps.{pairs-most}
-use Rattle.index.specs.KeyLaws.{dot-fits}
 use Rattle.index.specs.Check.{RecordOk}
 use Rattle.index.specs.CheckLaws.{index-size, ok-all}
 use Rattle.index_votes.specs.Span.{sumTo, Usable}
-use Rattle.index_votes.specs.Pair.{pairVotes, plainVotes, dirVotes}
+use Rattle.index_votes.specs.Pair.{pairVotes, plainVotes, adds, votesBy}
+use Rattle.index_votes.specs.SpanLaws.{sum-none, sum-bound}
 use Rattle.index_votes.specs.Plain.{sum-same}
-
-module _ (directions stars : List ℤ) (tolerance i c j : ℕ) where
-  pub dir-self : j ≡ i → dirVotes directions stars tolerance i c j ≡ 0
-  unfolding dirVotes
-  dir-self e = rw (eq-eqb j i e)
-
-  pub dir-other : (j ≡ i → ⊥) → dirVotes directions stars tolerance i c j ≡ plainVotes stars (pairDot directions i j) tolerance c
-  unfolding dirVotes
-  dir-other d = rw (ne-eqb j i d)
-
--- it adds not many
-pub dir-most : (directions stars : List ℤ) (tolerance i c j : ℕ) → triples stars ≤ 512 → dirVotes directions stars tolerance i c j ≤ 512
-unfolding dirVotes plainVotes pairVotes
-dir-most directions stars tolerance i c j h = go (other j i) (ltb c (triples stars))
-  where
-    go : (s t : Bool) → cond s (cond t (number (triples stars) (λ b. other b c && agreeing (pairDot directions i j) (pairDot stars c b) tolerance)) 0) 0 ≤ 512
-    go true true = omega (arith, number-most (triples stars) (λ b. other b c && agreeing (pairDot directions i j) (pairDot stars c b) tolerance))
-    go true false = omega arith
-    go false t = omega arith
 
 -- ---- numbers
 
@@ -58,9 +35,6 @@ pub raised-within : {z : ℤ} → Within 3000000000000000000 z → (622337203685
 unfolding raised
 raised-within {z = pos n} h = (omega (arith, h .within), omega (arith, h .within))
 raised-within {z = negsuc n} h = (omega (arith, h .within), omega (arith, h .within))
-
-pub more-listed : {list : List ℤ} → Listed 8 list → Listed 512 list
-more-listed h = record { few = omega (arith, h .few); near = h .near }
 
 -- ---- an index that is the catalogue's can be used
 
@@ -110,41 +84,97 @@ pairs-swap m zero test = sym (sum-zero m)
 pairs-swap m (suc n) test =
     omega (arith, pairs-swap m n test, number-sum m (λ j. test j n), sum-add m (λ j. number n (test j)) (λ j. one (test j n)))
 
-zero-either : (t : Bool) → _≡_ {A = ℕ} (cond t 0 0) 0
-zero-either true = refl
-zero-either false = refl
+module _ (mine : ℤ → Bool) (q : ℤ) (stars : List ℤ) (tolerance i c j : ℕ) where
+  pub adds-self : j ≡ i → adds mine q stars tolerance i c j ≡ 0
+  unfolding adds
+  adds-self e = rw (eq-eqb j i e)
 
-module _ (directions stars : List ℤ) (tolerance i : ℕ) where
-  votes-sum : (c : ℕ) → votesOf directions stars tolerance i c ≡ sumTo (triples directions) (λ j. cond (other j i) (pairVotes stars (pairDot directions i j) tolerance c) 0)
-  unfolding votesOf pairVotes
-  votes-sum c = pairs-swap (triples directions) (triples stars) (isVote directions stars tolerance i c) ∙ sum-same (triples directions) _ _ (λ j h. by j (other j i))
+  pub adds-passed : (j ≡ i → ⊥) → mine q ≡ true → adds mine q stars tolerance i c j ≡ plainVotes stars q tolerance c
+  unfolding adds
+  adds-passed d e = rw (ne-eqb j i d, e)
+
+  pub adds-failed : (j ≡ i → ⊥) → mine q ≡ false → adds mine q stars tolerance i c j ≡ 0
+  unfolding adds
+  adds-failed d e = rw (ne-eqb j i d, e)
+
+  -- it adds not many
+  pub adds-most : triples stars ≤ 512 → adds mine q stars tolerance i c j ≤ 512
+  unfolding adds plainVotes pairVotes
+  adds-most h = go (other j i) (mine q) (ltb c (triples stars))
     where
-      by : (j : ℕ) (t : Bool)
-          → number (triples stars) (λ b. t && (other b c && agreeing (pairDot directions i j) (pairDot stars c b) tolerance))
-          ≡ cond t (number (triples stars) (λ b. other b c && agreeing (pairDot directions i j) (pairDot stars c b) tolerance)) 0
-      by j true = refl
-      by j false = number-none (triples stars) (λ b. false) (λ k h. refl)
+      test : ℕ → Bool
+      test b = other b c && agreeing q (pairDot stars c b) tolerance
 
-  module _ (d : Listed 8 directions) (s : Listed 512 stars) where
-    -- the counters of a direction are the sums of what each other direction adds
-    counter : (c : ℕ) → c < 512 → sumTo (triples directions) (dirVotes directions stars tolerance i c) ≡ getD (countersOf directions stars tolerance i) c 0
-    unfolding dirVotes plainVotes
-    counter c h = go (decLt c (triples stars))
-      where
-        each : (t : Bool) → ltb c (triples stars) ≡ t → (j : ℕ) → dirVotes directions stars tolerance i c j ≡ cond (other j i) (cond t (pairVotes stars (pairDot directions i j) tolerance c) 0) 0
-        each t e j = ap (λ (u : Bool). cond (other j i) (cond u (pairVotes stars (pairDot directions i j) tolerance c) 0) 0) e
+      go : (s t u : Bool) → cond s (cond t (cond u (number (triples stars) test) 0) 0) 0 ≤ 512
+      go true true true = omega (arith, number-most (triples stars) test)
+      go true true false = omega arith
+      go true false u = omega arith
+      go false t u = omega arith
 
-        go : Dec (c < triples stars) → sumTo (triples directions) (dirVotes directions stars tolerance i c) ≡ getD (countersOf directions stars tolerance i) c 0
-        go (yes l) =
-            sum-same (triples directions) _ _ (λ j m. each true (lt-ltb c (triples stars) l) j)
-            ∙ sym (votes-sum c)
-            ∙ sym (counter-within directions stars tolerance i c l (s .few))
-        go (no l) =
-            sum-same (triples directions) _ (λ j. 0) (λ j m. each false (le-ltb c (triples stars) (omega arith)) j ∙ zero-either (other j i))
-            ∙ sum-zero (triples directions)
-            ∙ sym (counter-beyond directions stars tolerance i c (omega arith) h)
+module _ (mine : ℤ → Bool) (g : Setting) (c : ℕ) where
+  -- the product of direction j
+  abbrev productAt : ℕ → ℤ
+  productAt j = getD (g .products) j (pos 0)
 
-    pub counters-are : (votes : List ℕ) → length votes ≡ 512 → ((c : ℕ) → getD votes c 0 ≡ sumTo (triples directions) (dirVotes directions stars tolerance i c)) → votes ≡ countersOf directions stars tolerance i
-    counters-are votes e h =
-        ext-getD 0 votes (countersOf directions stars tolerance i) (e ∙ sym (counters-length directions stars tolerance i))
-        (λ c l. h c ∙ counter c (omega arith))
+  -- what direction j adds
+  abbrev added : ℕ → ℕ
+  added j = adds mine (productAt j) (g .stars) (g .tolerance) (g .i) c j
+
+  -- the votes of a part are what its directions add
+  pub by-sum : votesBy mine g c ≡ sumTo (g .count) added
+  unfolding votesBy adds plainVotes pairVotes
+  by-sum = go (ltb c (triples (g .stars)))
+    where
+      n : ℕ
+      n = triples (g .stars)
+
+      test : ℕ → ℕ → Bool
+      test j b = other b c && agreeing (productAt j) (pairDot (g .stars) c b) (g .tolerance)
+
+      one-part : (j : ℕ) (s t : Bool) → number n (λ b. t && (s && test j b)) ≡ cond s (cond t (number n (test j)) 0) 0
+      one-part j true true = refl
+      one-part j true false = number-none n (λ b. false) (λ k h. refl)
+      one-part j false true = number-none n (λ b. false) (λ k h. refl)
+      one-part j false false = number-none n (λ b. false) (λ k h. refl)
+
+      nothing : (s t : Bool) → _≡_ {A = ℕ} (cond s (cond t 0 0) 0) 0
+      nothing true true = refl
+      nothing true false = refl
+      nothing false t = refl
+
+      go : (u : Bool) → cond u (pairs (g .count) n (λ j b. mine (productAt j) && voteBy g c j b)) 0
+          ≡ sumTo (g .count) (λ j. cond (other j (g .i)) (cond (mine (productAt j)) (cond u (number n (test j)) 0) 0) 0)
+      go true =
+          pairs-swap (g .count) n (λ j b. mine (productAt j) && voteBy g c j b)
+          ∙ sum-same (g .count) _ _ (λ j h. one-part j (other j (g .i)) (mine (productAt j)))
+      go false = sym (sum-none (g .count) _ (λ j h. nothing (other j (g .i)) (mine (productAt j))))
+
+  pub by-most : g .count ≤ 8 → triples (g .stars) ≤ 512 → votesBy mine g c ≤ 4096
+  by-most h l = omega (arith, by-sum, sum-bound 512 (g .count) added (λ j m. adds-most mine (productAt j) (g .stars) (g .tolerance) (g .i) c j l))
+
+-- ---- the two parts
+
+number-split : (n : ℕ) (t f : ℕ → Bool) → number n (λ j. t j && f j) + number n (λ j. not (t j) && f j) ≡ number n f
+unfolding number
+number-split zero t f = refl
+number-split (suc n) t f = omega (arith, number-split n t f, go (t n))
+  where
+    go : (b : Bool) → one (b && f n) + one (not b && f n) ≡ one (f n)
+    go true = omega arith
+    go false = omega arith
+
+pairs-split : (m n : ℕ) (t : ℕ → Bool) (f : ℕ → ℕ → Bool) → pairs m n (λ j b. t j && f j b) + pairs m n (λ j b. not (t j) && f j b) ≡ pairs m n f
+unfolding pairs
+pairs-split m zero t f = refl
+pairs-split m (suc n) t f = omega (arith, pairs-split m n t f, number-split m t (λ j. f j n))
+
+-- a part and the rest together are all votes
+pub both-parts : (mine : ℤ → Bool) (g : Setting) (c : ℕ) → votesBy mine g c + votesBy (λ q. not (mine q)) g c ≡ soFar g (triples (g .stars)) c
+unfolding votesBy soFar from
+both-parts mine g c = go (ltb c (triples (g .stars)))
+  where
+    go : (u : Bool) → cond u (pairs (g .count) (triples (g .stars)) (λ j b. mine (getD (g .products) j (pos 0)) && voteBy g c j b)) 0
+        + cond u (pairs (g .count) (triples (g .stars)) (λ j b. not (mine (getD (g .products) j (pos 0))) && voteBy g c j b)) 0
+        ≡ cond u (pairs (g .count) (triples (g .stars)) (voteBy g c)) 0
+    go true = pairs-split (g .count) (triples (g .stars)) (λ j. mine (getD (g .products) j (pos 0))) (voteBy g c)
+    go false = refl

@@ -5,3 +5,4 @@ pub mod SpanLaws
 pub mod Near
 pub mod Plain
 pub mod Directions
+pub mod Border

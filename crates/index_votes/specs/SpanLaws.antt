@@ -1,7 +1,7 @@
 -- The votes of a span record by record. Assumes nothing.
 use mathlib.Core.Bool.{Bool, true, false, cond, _&&_, and-false}
-use mathlib.Core.Path.{_≡_, refl, sym, ap, _∙_}
-use mathlib.Core.List.{List, []}
+use mathlib.Core.Path.{_≡_, refl, _∙_}
+use mathlib.Core.List.{List}
 use Prim.Native.Nat.{ℕ, zero, suc, _+_, _*_, _/_, _%_, _≤_, _<_}
 use native.Mathlib.Decide.{ℕ-discrete}
 use native.Mathlib.Nat.{suc-mul}
@@ -10,7 +10,7 @@ use native.Mathlib.Omega.{arith}
 use borrow.Author.Tests.{le-leb, lt-leb, eq-eqb, ne-eqb}
 use lib.Dec.{leb, eqb}
 use lib.IntN.{ℤ}
-use lib.ListN.{length, getD, set, replicate, length-set, List·getD-eq-default}
+use lib.ListN.{length, getD, set}
 use lib.Seq.{getD-set-same, getD-set-other}
 use Rattle.counting.specs.Number.{one}
 use Rattle.counting.specs.NumberLaws.{one-most}
@@ -110,13 +110,3 @@ module _ (stars : List ℤ) (lower upper c b a : ℕ) where
 pub row-most : (stars : List ℤ) (lower upper c b : ℕ) → rowVotes stars lower upper c b ≤ b * 2
 unfolding rowVotes
 row-most stars lower upper c b = sum-bound 2 b _ (λ a h. meets-most stars lower upper c b a)
-
--- counters of zero
-at-zeros : (n k : ℕ) → _≡_ {A = ℕ} (getD (replicate n 0) k 0) 0
-at-zeros zero k = List·getD-eq-default [] 0 {n = k} (omega arith)
-at-zeros (suc n) zero = refl
-at-zeros (suc n) (suc k) = at-zeros n k
-
-pub zeros-empty : (n k : ℕ) (f : ℕ → ℕ) → getD (replicate n 0) k 0 ≡ sumTo 0 f
-unfolding sumTo
-zeros-empty n k f = at-zeros n k

@@ -1,13 +1,16 @@
 // Votes by the index alone: the first record of the span is found by halving, and each record up to the span's end is a vote for both its stars.
 // The catalogue is not lent here.
 use crate::ends;
+use index::key;
 use index_records::format;
 ghost use mathlib.Core.Path.{_≡_};
 ghost use Prim.Native.Nat.{ℕ, _+_, _/_, _<_, _≤_};
+ghost use lib.IntN.{pos};
 ghost use lib.ListN.{getD, length};
+ghost use Rattle.vectors.specs.Triples.{AllWithin};
 ghost use Rattle.index_records.specs.Format.{highAt};
 ghost use Rattle.index_votes.specs.Span.{Usable, spanVotes};
-ghost use Rattle.index_votes.specs.Pair.{VotesAsPlain};
+ghost use Rattle.index_votes.specs.Pair.{IndexFor, AddedByIndex, VotesOfIndex};
 
 // The first record whose dot product is at least the lower end.
 fn first_from(index: &[u8], lower: u64) -> usize
@@ -48,15 +51,58 @@ fn walk(index: &[u8], lower: u64, upper: u64, votes: &mut [u32])
     }
 }
 
-// The votes of a pair of directions, by the dot product of the two, moved up by 2^63. Where the index is that of some stars for a floor, and the span
-// does not begin below the floor, they are the votes by the plain rule.
-pub(crate) fn vote(index: &[u8], product: u64, tolerance: u64, votes: &mut [u32])
+// What direction j adds to the votes for direction i, if their product less the tolerance does not lie below the floor.
+fn vote(
+    index: &[u8],
+    products: &[i64],
+    i: usize,
+    j: usize,
+    tolerance: u64,
+    floor: u64,
+    votes: &mut [u32],
+)
     requires { ⌜ Usable 512 (now index) ⌝ }
-    requires { ⌜ length (now votes) ≡ 512 ⌝ }
     requires { ⌜ length (now index) / 12 ≤ 262144 ⌝ }
-    requires { ⌜ (tolerance ≤ product) × (product + tolerance < 18446744073709551616) ⌝ }
+    requires { ⌜ j < length (now products) ⌝ }
+    requires { ⌜ AllWithin 3000000000000000000 (now products) ⌝ }
+    requires { ⌜ tolerance ≤ 10000000000000000 ⌝ }
+    requires { ⌜ length (now votes) ≡ 512 ⌝ }
     requires { ⌜ ((c : ℕ) → getD (now votes) c 0 ≤ 1000000000) ⌝ }
-    ensures { λ r. ⌜ VotesAsPlain (now (index .entry)) product tolerance (now (votes .entry)) (now (votes .exit)) ⌝ }
+    ensures { λ r. ⌜ AddedByIndex (now (index .entry)) (getD (now (products .entry)) j (pos 0)) tolerance floor i j (now (votes .entry)) (now (votes .exit)) ⌝ }
 {
-    walk(index, product - tolerance, product + tolerance, votes);
+    if j == i {
+        return;
+    }
+    let product = key::raise(products[j]);
+    let lower = product - tolerance;
+    if lower < floor {
+        return;
+    }
+    walk(index, lower, product + tolerance, votes);
+}
+
+// The votes for direction i, by the first products, of exactly the pairs of directions whose dot product less the tolerance does not lie below the floor:
+// the index has each pair of stars that agrees with one of them.
+pub(crate) fn vote_above(
+    index: &[u8],
+    products: &[i64],
+    count: usize,
+    i: usize,
+    tolerance: u64,
+    floor: u64,
+    votes: &mut [u32],
+)
+    requires { ⌜ IndexFor (now index) floor ⌝ }
+    requires { ⌜ (count ≤ 8) × (count ≤ length (now products)) ⌝ }
+    requires { ⌜ AllWithin 3000000000000000000 (now products) ⌝ }
+    requires { ⌜ tolerance ≤ 10000000000000000 ⌝ }
+    requires { ⌜ length (now votes) ≡ 512 ⌝ }
+    requires { ⌜ ((c : ℕ) → getD (now votes) c 0 ≤ 500000000) ⌝ }
+    ensures { λ r. ⌜ VotesOfIndex (now (index .entry)) (now (products .entry)) count i tolerance floor (now (votes .entry)) (now (votes .exit)) ⌝ }
+{
+    let mut j: usize = 0;
+    while j < count {
+        vote(index, products, i, j, tolerance, floor, votes);
+        j += 1;
+    }
 }

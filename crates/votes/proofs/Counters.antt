@@ -1,23 +1,14 @@
 -- The counters while star a is counted against the stars before it: those below b have the pair with a, those from b on do not yet. Assumes nothing.
-use mathlib.Core.Bool.{cond}
 use mathlib.Core.Path.{_≡_, sym, ap, _∙_}
 use mathlib.Core.List.{List}
 use Prim.Native.Nat.{ℕ, _+_, _≤_, _<_}
 use native.Mathlib.Decide.{ℕ-discrete, decLt}
 use native.Mathlib.Omega.{arith}
 use borrow.Author.Count.{below-more}
-use lib.Dec.{ltb}
-use lib.IntN.{ℤ, pos}
-use lib.ListN.{length, getD, set, replicate}
-use lib.Seq.{getD-set-same, getD-set-other, ext-getD}
-use Rattle.vectors.specs.Triples.{triples, pairDot}
-use Rattle.counting.specs.Number.{pairs}
-use Rattle.counting.specs.NumberLaws.{pairs-same}
-use Rattle.votes.specs.Votes.{isVote, votesOf, countersOf}
-use Rattle.votes.specs.Laws.{firsts-length, firsts-at}
-use Rattle.votes.specs.Progress.{Setting, setting, voteBy, from, between, soFar}
+use lib.ListN.{length, getD, set}
+use lib.Seq.{getD-set-same, getD-set-other}
+use Rattle.votes.specs.Progress.{Setting, from, between, soFar}
 use Rattle.votes.specs.ProgressLaws.{between-comm, from-other, from-self, so-far-within, so-far-beyond}
-use Rattle.votes.proofs.Store.{at-zeros}
 
 module _ (g : Setting) where
   abbrev pub Passed : ℕ → ℕ → List ℕ → Type 0
@@ -64,21 +55,3 @@ module _ (g : Setting) where
       go (no n) (no l) =
           getD-set-other votes a k own 0 n ∙ left k (omega arith) ∙ so-far-beyond g a k (omega arith)
           ∙ sym (so-far-beyond g (a + 1) k (omega arith))
-
--- counters at zero, of which no star is counted
-pub none-counted : (g : Setting) (k : ℕ) → getD (replicate 512 0) k 0 ≡ soFar g 0 k
-none-counted g k = at-zeros 0 512 k ∙ sym (so-far-beyond g 0 k (omega arith))
-
--- where all stars are counted by the products of direction i, the counters are the votes for it
-pub all-counted : (directions stars products : List ℤ) (votes : List ℕ) (tolerance i : ℕ)
-    → ((j : ℕ) → j < triples directions → getD products j (pos 0) ≡ pairDot directions i j)
-    → length votes ≡ 512
-    → ((k : ℕ) → getD votes k 0 ≡ soFar (setting products (triples directions) i stars tolerance) (triples stars) k)
-    → votes ≡ countersOf directions stars tolerance i
-unfolding countersOf votesOf soFar from
-all-counted directions stars products votes tolerance i h l e =
-    ext-getD 0 votes _ (l ∙ sym (firsts-length 512 _))
-    (λ k n. e k ∙ ap (λ (v : ℕ). cond (ltb k (triples stars)) v 0) (same k) ∙ sym (firsts-at 512 _ k (omega arith)))
-  where
-    same : (k : ℕ) → pairs (triples directions) (triples stars) (voteBy (setting products (triples directions) i stars tolerance) k) ≡ pairs (triples directions) (triples stars) (isVote directions stars tolerance i k)
-    same k = pairs-same (triples directions) (triples stars) _ _ (λ j b m. rw (h j m))

@@ -1,19 +1,15 @@
 -- Lists whose numbers are within a bound: all zeros, and one number stored. And tables in which one more place is marked. Assumes nothing.
-use mathlib.Core.Path.{_≡_, refl, sym, ap, subst, _∙_}
-use mathlib.Core.List.{List, []}
-use Prim.Native.Nat.{ℕ, zero, suc, _<_}
+use mathlib.Core.Path.{_≡_, sym, ap, subst, _∙_}
+use mathlib.Core.List.{List}
+use Prim.Native.Nat.{ℕ, _<_}
 use native.Mathlib.Decide.{ℕ-discrete}
 use native.Mathlib.Omega.{arith}
 use lib.IntN.{ℤ, pos}
-use lib.ListN.{length, getD, set, replicate, List·getD-eq-default}
+use lib.ListN.{length, getD, set, replicate}
 use lib.Seq.{getD-set-same, getD-set-other}
 use Rattle.numbers.specs.Within.{Within}
 use Rattle.vectors.specs.Triples.{AllWithin}
-
-pub at-zeros : {A : Type 0} (z : A) (n k : ℕ) → getD (replicate n z) k z ≡ z
-at-zeros z zero k = List·getD-eq-default [] z {n = k} (omega arith)
-at-zeros z (suc n) zero = refl
-at-zeros z (suc n) (suc k) = at-zeros z n k
+use Rattle.votes.specs.ProgressLaws.{at-zeros}
 
 pub within-zeros : (n b : ℕ) → AllWithin b (replicate n (pos 0))
 within-zeros n b = record { at = λ k. subst (Within b) (sym (at-zeros (pos 0) n k)) (record { within = omega arith }) }

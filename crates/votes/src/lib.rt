@@ -13,7 +13,7 @@ ghost use Rattle.votes.specs.Progress.{agreesWith, agreesBy, setting, so
 ghost use Rattle.votes.specs.Near.{AllMarked};
 
 // The dot product of direction i with each direction.
-fn products_of(directions: &[i32], i: usize) -> [i64; 8]
+pub fn products_of(directions: &[i32], i: usize) -> [i64; 8]
     requires { ⌜ Listed 8 (now directions) ⌝ }
     requires { ⌜ i < triples (now directions) ⌝ }
     ensures { λ r. ⌜ ((j : ℕ) → j < triples (now (directions .entry)) → getD r j (pos 0) ≡ pairDot (now (directions .entry)) i j) ⌝ }

@@ -1,92 +1,99 @@
--- `index_votes::votes_for` meets its contract. The loop's invariant: the counters have what the first j directions add. Assumes nothing.
-use mathlib.Core.Path.{_≡_, ap, _∙_}
-use Prim.Native.Nat.{ℕ, _-_, _≤_}
+-- `index_votes::votes_for` meets its contract: what the index votes and what the full catalogue votes are all votes. Assumes nothing.
+use mathlib.Core.Path.{_≡_, _∙_}
+use Prim.Native.Nat.{ℕ, _+_, _≤_}
 use native.Mathlib.Omega.{arith}
-use lib.ListN.{length, getD}
+use lib.ListN.{length, getD, replicate, length-replicate}
 use Rattle.vectors.specs.Triples.{triples}
-use Rattle.index_votes.specs.Span.{sumTo}
-use Rattle.index_votes.specs.Pair.{dirVotes}
-use Rattle.index_votes.specs.SpanLaws.{sum-next, sum-bound, zeros-empty}
-use Rattle.index_votes.specs.Directions.{dir-most, counters-are}
+use Rattle.votes.specs.Progress.{Setting, setting, soFar}
+use Rattle.votes.specs.ProgressLaws.{at-zeros, all-counted}
+use Rattle.index_votes.specs.Pair.{byIndex, byCatalogue, votesBy}
+use Rattle.index_votes.specs.Directions.{by-most, both-parts}
 use borrow.Author.Needs.{needs}
 use Rattle.index_votes.proofs.votes_for.Statement.{statement}
 use Rattle.index_votes.proofs.votes_for.Tie as tie
 
-abbrev Inv-loop : tie.InvT-loop
-Inv-loop directions stars tolerance i index floor count votes₀ j₀ votes j =
-    (j ≤ count) × (length votes ≡ 512) × ((c : ℕ) → getD votes c 0 ≡ sumTo j (dirVotes directions stars tolerance i c))
+-- what the votes are counted by
+abbrev by : tie.After-products-of → Setting
+by d =
+    let x = d .before .before .args in
+    setting (d .products-of .result) (triples (x .directions .now)) (x .i) (x .stars .now) (x .tolerance)
 
-abbrev μ-loop : tie.MeasureT-loop
-μ-loop directions stars tolerance i index floor count votes₀ j₀ votes j = count - j
+-- what the index voted
+indexed : (c : tie.After-vote-above)
+    → let d = c .before .before .before in
+    let x = d .before .before .args in
+    (k : ℕ) → getD (c .vote-above .last .1 .1 .1 .1 .1 .1 .0) k 0 ≡ votesBy (byIndex (x .floor) (x .tolerance)) (by d) k
+indexed c k =
+    let s = c .before .before .before .before .before in
+    omega (arith, c .vote-above .ensures .added (s .args .stars .now) (s .pre .1 .0) (s .pre .1 .1 .1 .1) k, at-zeros {A = ℕ} 0 512 k)
 
-loop-holds : tie.Need-loop-holds Inv-loop μ-loop
-loop-holds c = (omega arith, search needs, λ k. zeros-empty 512 k _)
+products-of-requires : tie.Need-products-of-requires
+products-of-requires c κs = search needs
 
-slice-aggregate-vote-direction : tie.Need-slice-aggregate-vote-direction Inv-loop μ-loop
-slice-aggregate-vote-direction c = search needs
+slice-aggregate-vote-above : tie.Need-slice-aggregate-vote-above
+slice-aggregate-vote-above c = search needs
 
-vote-direction-requires : tie.Need-vote-direction-requires Inv-loop μ-loop
-vote-direction-requires c κs =
-    let l = c .before .before in
-    let s = l .before .before in
-    let x = s .args in
-    let n : l .loop .j ≤ 8 = omega (arith, s .pre .0 .few) in (
-      s .pre .0,
+slice-aggregate-vote-above-2 : tie.Need-slice-aggregate-vote-above-2
+slice-aggregate-vote-above-2 c = search needs
+
+vote-above-requires : tie.Need-vote-above-requires
+vote-above-requires c κs =
+    let d = c .before .before in
+    let s = d .before .before in (
+      record { stars = s .args .stars .now; listed = s .pre .1 .0; right = s .pre .1 .1 .1 .1 },
+      ((s .pre .0 .few, search needs), (d .products-of .ensures .1, (s .pre .1 .1 .1 .0, (length-replicate {A = ℕ} 512 0, λ k. omega (arith, at-zeros {A = ℕ} 0 512 k))))),
+    )
+
+slice-aggregate-vote-below : tie.Need-slice-aggregate-vote-below
+slice-aggregate-vote-below c = search needs
+
+slice-aggregate-vote-below-2 : tie.Need-slice-aggregate-vote-below-2
+slice-aggregate-vote-below-2 c = search needs
+
+vote-below-requires : tie.Need-vote-below-requires
+vote-below-requires c κs =
+    let a = c .before .before .before in
+    let d = a .before .before .before in
+    let s = d .before .before in
+    let x = s .args in (
+      s .pre .1 .0,
       (
-        s .pre .1 .0,
+        (s .pre .0 .few, search needs),
         (
-          (s .pre .1 .1 .0, omega arith),
+          d .products-of .ensures .1,
           (
             s .pre .1 .1 .1 .0,
             (
-              s .pre .1 .1 .1 .1,
-              (
-                l .loop .inv .1,
-                λ k.
-                    omega (arith, l .loop .inv .2 k, sum-bound 512 (l .loop .j) (dirVotes (x .directions .now) (x .stars .now) (x .tolerance) (x .i) k) (λ j h. dir-most (x .directions .now) (x .stars .now) (x .tolerance) (x .i) k j (s .pre .1 .0 .few))),
-              ),
+              a .vote-above .kept .1 .1 .1 .1 .1 .1 .0 ∙ length-replicate {A = ℕ} 512 0,
+              λ k. omega (arith, indexed a k, by-most (byIndex (x .floor) (x .tolerance)) (by d) k (s .pre .0 .few) (s .pre .1 .0 .few)),
             ),
           ),
         ),
       ),
     )
 
-add-j : tie.Need-add-j Inv-loop μ-loop
-add-j c = search needs
-
-loop-less : tie.Need-loop-less Inv-loop μ-loop
-loop-less c = search needs
-
-loop-again : tie.Need-loop-again Inv-loop μ-loop
-loop-again c =
-    let w = c .before .vote-direction in
-    let l = c .before .before .before .before in
-    let x = l .before .before .args in (
-      omega arith,
-      w .kept .1 .1 .1 .1 .1 .1 .1 .0 ∙ l .loop .inv .1,
-      λ k.
-          omega (arith, w .ensures k, l .loop .inv .2 k, sum-next (l .loop .j) (dirVotes (x .directions .now) (x .stars .now) (x .tolerance) (x .i) k)),
-    )
-
-returns : tie.Need-returns Inv-loop μ-loop
+returns : tie.Need-returns
 returns c =
-    let l = c .before .loop in
-    let s = c .before .before .before in
-    let x = s .args in
-    let e : l .j ≡ triples (x .directions .now) = omega arith in
-    counters-are (x .directions .now) (x .stars .now) (x .tolerance) (x .i) (s .pre .0) (s .pre .1 .0) (l .votes) (l .inv .1)
-    (λ k. l .inv .2 k ∙ ap (λ (n : ℕ). sumTo n (dirVotes (x .directions .now) (x .stars .now) (x .tolerance) (x .i) k)) e)
+    let b = c .before .vote-below in
+    let a = c .before .before .before .before .before in
+    let d = a .before .before .before in
+    let x = d .before .before .args in
+    all-counted (x .directions .now) (x .stars .now) (d .products-of .result) _ (x .tolerance) (x .i) (d .products-of .ensures .0)
+    (b .kept .1 .1 .1 .1 .1 .1 .0 ∙ a .vote-above .kept .1 .1 .1 .1 .1 .1 .0 ∙ length-replicate {A = ℕ} 512 0)
+    (λ k.
+    let u : votesBy (byIndex (x .floor) (x .tolerance)) (by d) k + votesBy (byCatalogue (x .floor) (x .tolerance)) (by d) k ≡ soFar (by d) (triples (x .stars .now)) k =
+    both-parts (byIndex (x .floor) (x .tolerance)) (by d) k in
+    omega (arith, b .ensures k, indexed a k, u))
 
 pub votes-for-spec : {M : Type 1} → statement M
 votes-for-spec =
     tie.close
     (tie.spec
-    Inv-loop
-    μ-loop
-    loop-holds
-    slice-aggregate-vote-direction
-    vote-direction-requires
-    add-j
-    loop-less
-    loop-again
+    products-of-requires
+    slice-aggregate-vote-above
+    slice-aggregate-vote-above-2
+    vote-above-requires
+    slice-aggregate-vote-below
+    slice-aggregate-vote-below-2
+    vote-below-requires
     returns)

@@ -6,7 +6,7 @@ use borrow.Author.Needs.{needs}
 use lib.ListN.{length, getD}
 use Rattle.vectors.specs.Triples.{triples}
 use Rattle.votes.specs.Progress.{setting, soFar}
-use Rattle.votes.proofs.Counters.{none-counted, all-counted}
+use Rattle.votes.specs.ProgressLaws.{none-counted, all-counted}
 use Rattle.votes.proofs.votes_for.Statement.{statement}
 use Rattle.votes.proofs.votes_for.Tie as tie
 
