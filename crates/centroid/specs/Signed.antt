@@ -2,14 +2,15 @@
 -- Assumes nothing.
 use mathlib.Core.Bool.{Bool, true, false, cond}
 use mathlib.Core.Path.{_≡_, refl, sym, ap, _∙_, fun-ext}
-use mathlib.Core.List.{List}
+use mathlib.Core.List.{List, [], _∷_}
 use Prim.Native.Nat.{ℕ, zero, suc, _+_, _-_, _*_, _/_, _≤_, _<_}
 use native.Mathlib.Nat.{zero-div, mul-zero}
 use native.Mathlib.Omega.{arith}
 use lib.Dec.{leb}
-use lib.IntN.{ℤ, pos, natAbs, negℤ, _+ℤ_, _-ℤ_, _*ℤ_, +ℤ-assoc, +ℤ-comm, +ℤ-invr, +ℤ-idr, +ℤ-idl, negℤ-+ℤ}
+use lib.IntN.{ℤ, pos, natAbs, negℤ, _+ℤ_, _-ℤ_, _*ℤ_, +ℤ-invr, +ℤ-idr, +ℤ-idl}
 use lib.Signed.{quotZ}
 use borrow.Author.Tests.{leb-true, leb-false}
+use Rattle.numbers.specs.Solver.{var, _⊕_, _⊖_, ring}
 use Rattle.centroid.specs.Sums.{sum-below, sumℤ-below, quotient-small}
 use Rattle.centroid.specs.Centroid.{weight, brightness, offset, shiftX, shiftY, along, centroidOf}
 use Rattle.centroid.specs.Moments.{momentX, momentY, position, fromMoments, MomentsOf}
@@ -21,14 +22,7 @@ dif a b = pos a -ℤ pos b
 
 dif-add : (a b c d : ℕ) → dif a b +ℤ dif c d ≡ dif (a + c) (b + d)
 unfolding dif
-dif-add a b c d =
-    +ℤ-assoc (pos a) (negℤ (pos b)) (pos c +ℤ negℤ (pos d))
-    ∙ ap (λ (z : ℤ). pos a +ℤ z)
-    (sym (+ℤ-assoc (negℤ (pos b)) (pos c) (negℤ (pos d)))
-    ∙ ap (λ (z : ℤ). z +ℤ negℤ (pos d)) (+ℤ-comm (negℤ (pos b)) (pos c))
-    ∙ +ℤ-assoc (pos c) (negℤ (pos b)) (negℤ (pos d)))
-    ∙ sym (+ℤ-assoc (pos a) (pos c) (negℤ (pos b) +ℤ negℤ (pos d)))
-    ∙ ap (λ (z : ℤ). (pos a +ℤ pos c) +ℤ z) (sym (negℤ-+ℤ (pos b) (pos d)))
+dif-add a b c d = ring (pos a ∷ (pos b ∷ (pos c ∷ (pos d ∷ [])))) (var 0 ⊖ var 1 ⊕ (var 2 ⊖ var 3)) (var 0 ⊕ var 2 ⊖ (var 1 ⊕ var 3)) tt
 
 dif-same : (a : ℕ) → dif a a ≡ pos 0
 unfolding dif

@@ -2,4 +2,5 @@
 pub mod Names
 pub mod Mirror
 pub mod Tolerance
+pub mod Field
 pub mod Sure

@@ -85,20 +85,29 @@ module _ (directions stars : List ℤ) (truth : List ℕ) (ideal : ℕ → Vec3)
         (m .threes i j k p q r)) in
         ⊎-elim (small-unmirrored t (starTriple i j k)) (near-unmirrored t (starTriple i j k) w) (m .upright i j k p q r)
 
+-- what fits: every two agree, and the threes are as measured
+pub fits-where :
+    {e d g : ℕ} (directions : List ℤ) (bytes : List ℕ) (needed tolerance : ℕ) (truth : List ℕ) (ideal : ℕ → Vec3) →
+    Assigns (directionsIn directions) (recordsIn bytes) needed truth → Measured directions (starsOf bytes) truth ideal e d g (recordsIn bytes) →
+    ((i j : ℕ) → Named directions (starsOf bytes) truth ideal (recordsIn bytes) i → Named directions (starsOf bytes) truth ideal (recordsIn bytes) j
+    → agreement directions (starsOf bytes) tolerance i j (at truth i) (at truth j) ≡ true) →
+    FitsCall directions bytes needed tolerance truth
+fits-where directions bytes needed tolerance truth ideal a m agree =
+    record {
+      long = a .long;
+      words = a .words;
+      different = a .different;
+      agreed = λ i j h k n p q. agree i j (record { within = h; star = p }) (record { within = k; star = q });
+      unmirrored =
+          λ i j k h l n p q r.
+          none-mirrored directions (starsOf bytes) truth ideal m i j k (record { within = omega arith; star = p }) (record { within = omega arith; star = q }) (record { within = n; star = r });
+      enough = a .enough;
+    }
+
 -- THE TRUTH FITS
 pub truth-fits :
     {e d g : ℕ} (directions : List ℤ) (bytes : List ℕ) (needed tolerance : ℕ) (truth : List ℕ) (ideal : ℕ → Vec3) →
     Assigns (directionsIn directions) (recordsIn bytes) needed truth → Measured directions (starsOf bytes) truth ideal e d g (recordsIn bytes) →
     d + 6000000000 * e + 3 * (e * e) ≤ tolerance → FitsCall directions bytes needed tolerance truth
 truth-fits directions bytes needed tolerance truth ideal a m wide =
-    let stars = starsOf bytes in
-    record {
-      long = a .long;
-      words = a .words;
-      different = a .different;
-      agreed = λ i j h k n p q. all-agree directions stars truth ideal m wide i j (record { within = h; star = p }) (record { within = k; star = q });
-      unmirrored =
-          λ i j k h l n p q r.
-          none-mirrored directions stars truth ideal m i j k (record { within = omega arith; star = p }) (record { within = omega arith; star = q }) (record { within = n; star = r });
-      enough = a .enough;
-    }
+    fits-where directions bytes needed tolerance truth ideal a m (all-agree directions (starsOf bytes) truth ideal m wide)

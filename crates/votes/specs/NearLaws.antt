@@ -1,15 +1,16 @@
 -- Products that agree are near each other, and a product whose place is not marked agrees with none. Assumes nothing.
 use mathlib.Core.Path.{_≡_, refl, sym, ap, _∙_}
 use mathlib.Core.Bool.{Bool, true, false, and-false}
-use mathlib.Core.List.{List}
+use mathlib.Core.List.{List, [], _∷_}
 use Prim.Native.Nat.{ℕ, suc, _+_, _≤_, _<_}
 use native.Mathlib.Omega.{arith}
 use borrow.Author.Tests.{le-ltb}
 use lib.Dec.{T}
-use lib.IntN.{ℤ, pos, negsuc, natAbs, negℤ, _+ℤ_, _-ℤ_, +ℤ-assoc, -ℤ-+ℤ-cancel, negℤ-+ℤ, negℤ-negℤ, +ℤ-comm}
+use lib.IntN.{ℤ, pos, negsuc, natAbs, _+ℤ_, _-ℤ_}
 use lib.Signed.{nonNeg}
 use lib.ListN.{length, getD}
-use Rattle.numbers.specs.Abs.{abs-add, abs-neg}
+use Rattle.numbers.specs.Abs.{abs-add, abs-zero-sub}
+use Rattle.numbers.specs.Solver.{var, num, _⊕_, _⊖_, ring}
 use Rattle.numbers.specs.Within.{Within}
 use Rattle.vectors.specs.Agree.{agreeing, agreeing-near}
 use Rattle.counting.specs.Number.{number}
@@ -22,12 +23,10 @@ use Rattle.votes.specs.Near.{liftedOf, placeOf, Marks, AllMarked}
 apart : (p q : ℤ) → liftedOf q ≤ natAbs (q -ℤ p) + liftedOf p
 apart p q =
     let c = pos 3000000000000000000 in
-    omega (arith, abs-add (q -ℤ p) (p +ℤ c), ap natAbs (sym (+ℤ-assoc (q -ℤ p) p c) ∙ ap (λ (z : ℤ). z +ℤ c) (-ℤ-+ℤ-cancel q p)))
+    omega (arith, abs-add (q -ℤ p) (p +ℤ c), ap natAbs (ring (p ∷ (q ∷ (c ∷ []))) (var 1 ⊖ var 0 ⊕ (var 0 ⊕ var 2)) (var 1 ⊕ var 2) tt))
 
 turned : (p q : ℤ) → natAbs (p -ℤ q) ≡ natAbs (q -ℤ p)
-turned p q =
-    sym (abs-neg (p -ℤ q))
-    ∙ ap natAbs (negℤ-+ℤ p (negℤ q) ∙ ap (λ (z : ℤ). negℤ p +ℤ z) (negℤ-negℤ q) ∙ +ℤ-comm (negℤ p) q)
+turned p q = sym (abs-zero-sub (p -ℤ q)) ∙ ap natAbs (ring (p ∷ (q ∷ [])) (num (pos 0) ⊖ (var 0 ⊖ var 1)) (var 1 ⊖ var 0) tt)
 
 pub near-lifted : (p q : ℤ) (t : ℕ) → agreeing q p t ≡ true → (liftedOf q ≤ liftedOf p + t) × (liftedOf p ≤ liftedOf q + t)
 near-lifted p q t e =
