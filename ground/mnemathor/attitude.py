@@ -39,6 +39,16 @@ def random_matrix(random):
     return matrix_of(Pointing(ra, float(np.rad2deg(np.arcsin(sine))), roll))
 
 
+def random_matrix_near(random, middle, reach):
+    """The same for an axis within `reach` radians of a direction of the sky."""
+    away, turn = np.arccos(random.uniform(np.cos(reach), 1)), random.uniform(0, 2 * np.pi)
+    side = np.cross(middle, np.eye(3)[np.argmin(abs(np.asarray(middle)))])
+    side /= np.linalg.norm(side)
+    out = np.cos(away) * middle + np.sin(away) * (np.cos(turn) * side + np.sin(turn) * np.cross(middle, side))
+    place = _place(out)
+    return matrix_of(Pointing(place.ra.deg, place.dec.deg, random.uniform(0, 360)))
+
+
 def vectors(records):
     """The directions of catalogue records as rows of floats of length 1."""
     return np.stack([records[axis] for axis in "xyz"], axis=-1).astype(float) / UNIT

@@ -195,16 +195,18 @@ def _add_solve(subcommands):
         "Runs the chain and the rival call. Right ascension and declination are those of the camera's axis, which goes through the "
         "settings' centre; roll is the position angle of the frame's upward direction, from north through east; all in degrees, in the "
         "catalogue's own coordinates. A residual is the angle from a star's measured direction to where the matrix puts it; the attitude "
-        "rests on the first two named stars, so the first has none. For a frame that is refused with 12, 13 or 14 the list, sky, noise and "
-        "saturated samples are told, and after 13 whether a mirror image, a wider tolerance, one needed fewer or another focal length near "
-        "by would fit.",
+        "rests on the first two named stars, so the first has none. The last line says whether the stars that the answer did not use confirm it: "
+        "how many of the catalogue's others in the frame lie within two pixels of a measured position, and how many would by chance. Where they "
+        "are too few to tell, it says how often random positions get as many names; that is counted once and kept in alarms.json. For a frame "
+        "that is refused with 12, 13 or 14 the list, sky, noise and saturated samples are told, and after 13 whether a mirror image, a wider "
+        "tolerance, one needed fewer or another focal length near by would fit.",
     )
     words.add_argument("folder", metavar="FOLDER", help="has settings.bin, catalogue.bin and frame.bin")
     words.add_argument("--json", action="store_true", help="print JSON")
 
 
 def _solve(words):
-    from . import diagnosis, solving
+    from . import confirmation, diagnosis, solving
 
     settings, samples, catalogue = solving.read_folder(words.folder)
     try:
@@ -212,10 +214,12 @@ def _solve(words):
     except Refused as refusal:
         hints = _tell_refused(refusal, settings, samples, catalogue, words.json)
         raise refusal.with_note("; ".join(hints) or None) from refusal
+    worth = confirmation.worth(words.folder, settings, samples, catalogue, solution)
     if words.json:
-        print(json.dumps({"refused": None, **solution.as_dict(), **diagnosis.measure(settings, samples, catalogue).as_dict()}, indent=1))
+        measured = diagnosis.measure(settings, samples, catalogue)
+        print(json.dumps({"refused": None, **solution.as_dict(), **measured.as_dict(), **worth.as_dict()}, indent=1))
     else:
-        _tell(solution)
+        _tell(solution, worth)
 
 
 def _tell_refused(refusal, settings, samples, catalogue, as_json):
@@ -234,7 +238,7 @@ def _tell_refused(refusal, settings, samples, catalogue, as_json):
     return list(hints.values())
 
 
-def _tell(solution):
+def _tell(solution, worth):
     where = solution.pointing
     print(f"right ascension {where.ra:.5f}  declination {where.dec:+.5f}  roll {where.roll:.4f}  (degrees)")
     print(f"measured {solution.measured} edge {solution.edge} lone {solution.lone}")
@@ -245,6 +249,7 @@ def _tell(solution):
     if solution.rival is not None:
         other = ", ".join(f"star {number} as {identity}" for number, identity in solution.rival.items())
         print(f"WARNING: another identification fits as well; it has {other}")
+    print(worth)
 
 
 # picture
@@ -257,7 +262,8 @@ def _add_picture(subcommands):
         _picture,
         "draws the frame with what was found in it",
         "Listed stars are ringed, with number and identity; edge and lone pixels and stars beyond the first eight are marked by kind; "
-        "catalogue stars stand where the matrix puts them. A frame without a solution is drawn too, with the refusal above it.",
+        "catalogue stars stand where the matrix puts them, and those that the answer did not use have a small ring, whole where a measured position "
+        "is near, dotted where none is. A frame without a solution is drawn too, with the refusal above it.",
     )
     words.add_argument("folder", metavar="FOLDER", help="has settings.bin, catalogue.bin and frame.bin")
     words.add_argument("out", metavar="OUT.png", help="the picture; its ending says which kind: .png, .pdf or .svg")
@@ -343,14 +349,18 @@ def _add_trial(subcommands):
         "Simulates frames with the folder's lens, threshold and catalogue, solves each for every pair of the grid, and prints how many were "
         "accepted, and of these how many had a wrong name (its star was not put within 3 pixels of the measured position) or a wrong "
         "pointing (the axis is off by more than --off). Where none was seen stands the 95 % upper bound, exact binomial: 1 - 0.05^(1/n). "
-        "Recommended is the pair that accepts most with no wrong name; of equal ones the larger needed count, then the smaller tolerance.",
+        "Then lists of random positions, with no star behind any, are searched: those that are accepted are false alarms. Recommended is, of the "
+        "pairs without a wrong name whose false alarms stay below --alarms and that accept nearly as many frames as the best of these (nine "
+        "tenths), the one with the smallest needed count, and of these the one with the widest tolerance. --empty and --strange count false alarms alone. "
+        "Ctrl-C ends the lists early, and what was counted is printed.",
     )
     words.add_argument("folder", metavar="FOLDER", help="has settings.bin and catalogue.bin")
     words.add_argument("--frames", type=whole(1, 10**7), default=200, metavar="N", help="how many")
-    words.add_argument("--tolerances", type=whole(0, 2**64 - 1), nargs="+", metavar="T", help="else 1/16, 1/8, 1/4, 1/2 and 1 pixel at the separation of the shorter side")
+    words.add_argument("--tolerances", type=whole(0, 2**64 - 1), nargs="+", metavar="T", help="else 1/16, 1/8, 1/4, 1/2 and 1 pixel at the shorter side's separation; with --empty and --strange the folder's")
     words.add_argument("--needed", type=whole(), nargs="+", default=[3, 4, 5, 6], metavar="N", help="needed counts")
     words.add_argument("--off", type=number(0, 10000), default=1.0, metavar="PIXELS", help="an axis farther off than this is a wrong pointing")
     words.add_argument("--rivals", action="store_true", help="also count the accepted frames that have no rival, and wrong names among them")
+    _add_alarms(words)
     words.add_argument("--processes", type=whole(1, 1024), metavar="N", help="else as many as there are processors")
     words.add_argument("--plot", metavar="OUT.png", help="draw the grid; .png, .pdf or .svg")
     _add_force(words, "file OUT that the tools did not make")
@@ -360,14 +370,54 @@ def _add_trial(subcommands):
     _add_weather(words, hot=2, false=1, jitter=0.05)
 
 
+def _add_alarms(words):
+    words.add_argument("--lists", type=whole(0, 10**7), metavar="N", help="lists with no star behind them; else 3000, alone 10000; 0 leaves false alarms out")
+    words.add_argument("--stars", type=whole(1, 8), nargs="+", metavar="N", help="how many positions such a list has, in turn; else 8, the most, and with --empty 4 to 8")
+    words.add_argument("--alarms", type=number(0, 1), default=0.001, metavar="RATE", help="the upper bound of the false alarms must lie below this")
+    words.add_argument("--empty", action="store_true", help="count false alarms alone, without simulated frames")
+    words.add_argument("--strange", metavar="STARS", help="the same, of simulated frames of this star list, at places that the catalogue does not cover")
+
+
+def _false_alarms(words, settings, catalogue):
+    """False alarms alone: of random positions, or of frames of a star list."""
+    from . import alarms, trials
+
+    if words.set or words.plot:
+        raise Mistake("--set and --plot weigh false alarms against good frames: leave --empty and --strange out")
+    strange = None if words.strange is None else (stars.read_stars(words.strange).records, alarms.strange_weather(_weather(words), catalogue))
+    how = {"stars": words.stars or alarms.STARS, "seed": words.seed, "strange": strange, "processes": words.processes}
+    tolerances = words.tolerances or [settings.tolerance]
+    made = alarms.measure(settings, catalogue, tolerances, words.needed, 10000 if words.lists is None else words.lists, **how)
+    print(json.dumps(made.as_dict(), indent=1) if words.json else alarms.table(made, trials.shorter_side(settings)))
+
+
+def _with_alarms(made, words, settings, catalogue):
+    """A trial with the false alarms of the same pairs beside it."""
+    from . import alarms
+
+    lists = 3000 if words.lists is None else words.lists
+    if lists == 0:
+        return made
+    pairs = {cell.tolerance for cell in made.cells}, {cell.needed for cell in made.cells}
+    counted = alarms.measure(settings, catalogue, *pairs, lists, stars=words.stars or (alarms.MOST,), seed=words.seed, rivals=False, processes=words.processes)
+    return replace(made, alarms=counted, limit=words.alarms)
+
+
 def _trial(words):
     from . import trials
 
     settings, catalogue = read_settings(words.folder), read_catalogue(words.folder)
+    if words.empty or words.strange is not None:
+        _false_alarms(words, settings, catalogue)
+        return
+    if words.set and words.lists == 0:
+        raise Mistake("--set weighs false alarms too, and --lists 0 leaves them out; the settings stay")
     draw = _plotting(words, settings) if words.plot else lambda made: None
     tolerances = words.tolerances or trials.default_tolerances(settings)
     rest = {"seed": words.seed, "off": words.off, "rivals": words.rivals, "processes": words.processes}
     made = trials.trial(settings, catalogue, words.frames, tolerances, words.needed, _weather(words), **rest)
+    if not made.stopped:
+        made = _with_alarms(made, words, settings, catalogue)
     print(json.dumps(made.as_dict(), indent=1) if words.json else trials.table(made, settings), flush=True)
     draw(made)
     if made.stopped:

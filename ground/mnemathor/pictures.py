@@ -20,8 +20,10 @@ from matplotlib.patches import Circle, Rectangle
 from . import library
 from .attitude import in_frame, vectors
 from .configuration import angle_of
+from .confirmation import confirm
 from .folder import PIXEL
 from .diagnosis import MIRROR, NO_FIT
+from .rates import upper_bound
 from .refusals import Mistake, Refused
 from .solving import Star, mirrored_fits, solve
 from .trials import shorter_side
@@ -29,6 +31,8 @@ from .trials import shorter_side
 NAMED, UNNAMED, EDGE, LONE, UNLISTED, CATALOGUE, ASKED = "#39d353", "#ff9f1c", "#ffe14d", "#ff4d6d", "#7aa2ff", "#27d3f5", "#ff5cf4"
 # A ring is this part of the frame's width, and no smaller than a star's window.
 RING, WINDOW = 1 / 40, 3.5
+# Further stars of the catalogue, which the answer did not use: one that was found, and one that was missed; their ring is this part of a named star's.
+FOUND, MISSED, SMALL = "#b6f5a2", "#ff8a8a", 0.6
 # The legend's room, in inches.
 LEGEND = 0.6
 # What each kind of file says about who made it.
@@ -49,9 +53,11 @@ def picture(settings, samples, catalogue, pixel=None, dpi=100):
         _ring(axes, star, stars, ring(settings))
     marks = bright_pixels(samples, settings, report)
     counts = _mark(axes, marks, stars)
+    confirmation = confirm(settings, samples, catalogue, solution) if solution else None
     if solution:
         counts["catalogue"] = _mark_catalogue(axes, solution, catalogue, settings)
-    axes.set_title(_title(solution, refusal), fontsize=9)
+        counts.update(_mark_further(axes, confirmation, ring(settings)))
+    axes.set_title(_title(solution, refusal, confirmation), fontsize=9)
     _legend(figure.axes[-1], stars, counts)
     if pixel is not None:
         _window(figure, samples, settings, *pixel)
@@ -114,17 +120,19 @@ def reason_in_words(reason):
 
 
 def trial_picture(trial, settings):
-    """The grid of a trial: accepted, wrong names and wrong pointing for each pair."""
-    figure = Figure(figsize=(11, 3.6), dpi=100, layout="constrained")
+    """The grid of a trial: accepted, wrong names and wrong pointing for each pair, and the false alarms where they were counted."""
     tolerances = sorted({cell.tolerance for cell in trial.cells})
     needed = sorted({cell.needed for cell in trial.cells})
     parts = [
-        ("accepted, % of the frames", "Greens", lambda cell: 100 * cell.accepted / cell.frames),
-        ("wrong names, % of the accepted", "Reds", lambda cell: _share(cell, cell.wrong_names)),
-        ("wrong pointing, % of the accepted", "Reds", lambda cell: _share(cell, cell.wrong_pointing)),
+        ("accepted, % of the frames", "Greens", lambda cell: (cell.accepted, cell.frames)),
+        ("wrong names, % of the accepted", "Reds", lambda cell: (cell.wrong_names, cell.accepted)),
+        ("wrong pointing, % of the accepted", "Reds", lambda cell: (cell.wrong_pointing, cell.accepted)),
     ]
+    if trial.alarms is not None:
+        parts.append(("false alarms, % of the lists", "Reds", lambda cell: _false(trial.alarms.cell(cell.tolerance, cell.needed))))
+    figure = Figure(figsize=(3.7 * len(parts), 3.6), dpi=100, layout="constrained")
     side = shorter_side(settings)
-    for axes, (title, colours, value) in zip(figure.subplots(1, 3), parts):
+    for axes, (title, colours, value) in zip(figure.subplots(1, len(parts)), parts):
         _grid(axes, trial, tolerances, needed, value, colours)
         axes.set_title(title, fontsize=9)
         axes.set_xticks(range(len(tolerances)), [f"{t:.1e}\n{angle_of(t, side).value:.0f}″" for t in tolerances], fontsize=7)
@@ -134,20 +142,26 @@ def trial_picture(trial, settings):
     return figure
 
 
-def _share(cell, count):
-    return 100 * count / cell.accepted if cell.accepted else np.nan
+def _false(cell):
+    """A cell's false alarms, of its lists; where it was stopped before the first list there are none of none."""
+    return (0, 0) if cell is None else (cell.accepted, cell.lists)
+
+
+def _share(count, tries):
+    return 100 * count / tries if tries else np.nan
 
 
 def _grid(axes, trial, tolerances, needed, value, colours):
-    """One coloured grid with its numbers; a 0 has its 95 % bound beneath it."""
+    """One coloured grid with its numbers, each a count of so many; a 0 has its 95 % bound beneath it."""
     cells = {(cell.needed, cell.tolerance): cell for cell in trial.cells}
-    values = np.array([[value(cells[n, t]) for t in tolerances] for n in needed])
+    values = np.array([[_share(*value(cells[n, t])) for t in tolerances] for n in needed])
     axes.imshow(values, cmap=colours, vmin=0, vmax=100, origin="lower", aspect="auto")
     for (row, column), share in np.ndenumerate(values):
         cell = cells[needed[row], tolerances[column]]
         text = "-" if np.isnan(share) else f"{share:.1f}"
         if share == 0 and colours == "Reds":
-            text = f"0\n(<{100 * cell.bound:.1f})"
+            bound = 100 * upper_bound(*value(cell))
+            text = f"0\n(<{bound:.1f})" if bound >= 0.1 else f"0\n(<{bound:.2f})"
         best = cell is trial.recommended
         axes.text(column, row, text, ha="center", va="center", fontsize=8, weight="bold" if best else "normal", color="white" if share > 60 else "black")
         if best:
@@ -235,12 +249,21 @@ def _mark_catalogue(axes, solution, catalogue, settings):
     return int(np.count_nonzero(inside))
 
 
-def _title(solution, refusal):
+def _mark_further(axes, confirmation, radius):
+    """A small ring around each further star: whole where it was found, dotted where it was missed."""
+    for star in confirmation.stars:
+        look = {"edgecolor": FOUND if star.found else MISSED, "linewidth": 1.0, "linestyle": "-" if star.found else ":"}
+        axes.add_patch(Circle((star.column, star.row), SMALL * radius, fill=False, **look))
+    return {"found": confirmation.found, "missed": len(confirmation.stars) - confirmation.found}
+
+
+def _title(solution, refusal, confirmation):
     if refusal is not None:
         return "\n".join(textwrap.wrap(str(refusal), 90))
     where = solution.pointing
     text = f"right ascension {where.ra:.4f}°, declination {where.dec:+.4f}°, roll {where.roll:.3f}°"
-    return text if solution.rival is None else text + "\nWARNING: another identification fits as well"
+    rival = [] if solution.rival is None else ["WARNING: another identification fits as well"]
+    return "\n".join([text, *rival, str(confirmation)])
 
 
 def _legend(axes, stars, counts):
@@ -253,11 +276,13 @@ def _legend(axes, stars, counts):
         (f"lone, a hot pixel ({counts['lone']})", "x", LONE, counts["lone"]),
         (f"measured, not listed ({counts['unlisted']})", "^", UNLISTED, counts["unlisted"]),
         (f"catalogue ({counts['catalogue']})", "+", CATALOGUE, counts["catalogue"]),
+        (f"further star, found ({counts['found']})", "o", FOUND, counts["found"]),
+        (f"further star, missed ({counts['missed']})", "o", MISSED, counts["missed"]),
     ]
     shown = [Line2D([], [], marker=marker, color=colour, fillstyle="none", linestyle="", label=label) for label, marker, colour, count in entries if count]
     if shown:
         look = {"fontsize": 8, "facecolor": "#222222", "edgecolor": "#222222", "labelcolor": "white"}
-        axes.legend(handles=shown, loc="center", ncols=min(len(shown), 3), **look)
+        axes.legend(handles=shown, loc="center", ncols=min(len(shown), 3 if len(shown) <= 6 else 4), **look)
 
 
 def _window(figure, samples, settings, row, column):

@@ -1,13 +1,13 @@
 """Frames that might have been: a catalogue seen by a folder's camera, with everything that spoils a frame, from a seed."""
 
-from dataclasses import asdict, dataclass, field
+from dataclasses import asdict, dataclass, field, replace
 
 import numpy as np
 from astropy.modeling.functional_models import Gaussian2D
 from astropy.nddata import NoOverlapError, overlap_slices
 
-from .attitude import Pointing, in_frame, matrix_of, pointing_of, random_matrix, vectors
-from .folder import LEVELS, MAGNITUDE
+from .attitude import Pointing, in_frame, matrix_of, pointing_of, random_matrix, random_matrix_near, vectors
+from .folder import LEVELS, MAGNITUDE, PIXEL
 from .refusals import Mistake
 
 TRIES = 20000
@@ -74,6 +74,11 @@ def simulate(settings, catalogue, seed, weather=Weather(), pointing=None):
     random = np.random.default_rng(seed)
     sky = vectors(catalogue)
     matrix, draws = _attitude(random, sky, settings, weather.least) if pointing is None else (matrix_of(pointing), 1)
+    return replace(render(settings, catalogue, random, weather, matrix), seed=seed, draws=draws)
+
+
+def render(settings, catalogue, random, weather, matrix):
+    """The frame of the catalogue at one attitude."""
     frame = np.full((settings.height, settings.width), weather.background)
     peak = _peak(catalogue, settings, weather)
     stars = _put_stars(frame, random, catalogue, matrix, settings, weather, peak)
@@ -83,16 +88,28 @@ def simulate(settings, catalogue, seed, weather=Weather(), pointing=None):
     samples = np.clip(np.rint(frame), 0, LEVELS - 1).astype(np.uint16)
     if weather.mirror:
         samples = np.ascontiguousarray(samples[:, ::-1])
-    return Simulated(samples, matrix, *(_seen(puts, weather, settings) for puts in (stars, false, hot)), seed, draws, weather)
+    return Simulated(samples, matrix, *(_seen(puts, weather, settings) for puts in (stars, false, hot)), weather=weather)
 
 
 def _attitude(random, sky, settings, least):
     """An attitude with at least so many catalogue stars in the frame, and how many were drawn for it."""
+    region = _region(sky, settings)
     for draws in range(1, TRIES + 1):
-        matrix = random_matrix(random)
+        matrix = random_matrix(random) if region is None else random_matrix_near(random, *region)
         if np.count_nonzero(in_frame(matrix, sky, settings)[2]) >= least:
             return matrix, draws
     raise Mistake(f"of {TRIES} attitudes none had {least} stars of the catalogue in the frame")
+
+
+def _region(sky, settings):
+    """For a catalogue of a part of the sky its middle, and how far from it the axis can be with a star in the frame; else None."""
+    middle = np.sum(sky, axis=0)
+    if np.linalg.norm(middle) < 0.5 * len(sky):
+        return None
+    middle /= np.linalg.norm(middle)
+    corner = np.arctan(np.hypot(settings.width, settings.height) * PIXEL / settings.focal)
+    reach = np.arccos(np.clip((sky @ middle).min(), -1, 1)) + corner
+    return (middle, reach) if reach < np.pi / 2 else None
 
 
 def _peak(catalogue, settings, weather):

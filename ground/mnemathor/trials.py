@@ -9,10 +9,13 @@ import numpy as np
 from astropy import units as u
 from tqdm import tqdm
 
+from . import alarms as false_alarms
 from . import library
 from .attitude import angle_between, turn_between, vectors
+from .choosing import choose
 from .configuration import angle_of, pixel_angle, tolerance_of
 from .folder import PIXEL, STAR, UNIT
+from .rates import in_words
 from .refusals import Mistake, Refused
 from .simulation import simulate
 from .structures import INDEX_RECORD
@@ -64,13 +67,15 @@ class Cell:
 
 @dataclass(frozen=True)
 class Trial:
-    """The whole grid, and how many random attitudes had too few stars to be tried."""
+    """The whole grid, and how many random attitudes had too few stars to be tried; the false alarms, where they were counted, and their limit."""
 
     cells: tuple
     frames: int
     seed: int
     off: float
     drawn: int
+    alarms: false_alarms.Alarms | None = None
+    limit: float = 0.001
     wanted: int | None = None
 
     @property
@@ -80,16 +85,17 @@ class Trial:
 
     @property
     def recommended(self):
-        """The pair that accepts most with no wrong name; of equal ones the larger needed count, then the smaller tolerance."""
-        clean = [cell for cell in self.cells if cell.accepted and not cell.wrong_names]
-        return max(clean, key=lambda cell: (cell.accepted, cell.needed, -cell.tolerance), default=None)
+        """The pair to take, by the rule of `choosing`."""
+        return choose(self.cells, self.alarms, self.limit)
 
     def as_dict(self):
         """The trial in plain numbers, for JSON."""
         best = self.recommended
         pair = None if best is None else {"tolerance": best.tolerance, "needed": best.needed}
         cells = [{**asdict(cell), "bound": cell.bound} for cell in self.cells]
-        return {"frames": self.frames, "seed": self.seed, "off": self.off, "drawn": self.drawn, "recommended": pair, "cells": cells}
+        alarms = None if self.alarms is None else self.alarms.as_dict()
+        told = {"frames": self.frames, "seed": self.seed, "off": self.off, "drawn": self.drawn, "recommended": pair, "limit": self.limit}
+        return {**told, "cells": cells, "alarms": alarms}
 
 
 def frames_for(cell, bound):
@@ -256,12 +262,13 @@ def table(trial, settings):
     lines = [
         f"{trial.frames} frames, seed {trial.seed}; {trial.drawn - trial.frames} more attitudes had too few stars, and count in `of all`",
         f"{'tolerance':>17} {f'at {side.to_value(u.deg):.1f}°':>9} {'needed':>6} {'accepted':>8} {'of all':>7} {'wrong names':>16} {'wrong pointing':>16}"
-        f" {'axis error':>14} {'turn error':>14}",
+        f" {'axis error':>14} {'turn error':>14}" + ("" if trial.alarms is None else f" {'false alarms':>20}"),
     ]
     for cell in trial.cells:
         angle = f"{angle_of(cell.tolerance, side).value:.1f}″"
         counts = f"{_counted(cell.wrong_names, cell.bound):>16} {_counted(cell.wrong_pointing, cell.bound):>16}"
         errors = f"{_errors(cell.axis_median, cell.axis_95):>14} {_errors(cell.turn_median, cell.turn_95):>14}"
+        errors += "" if trial.alarms is None else f" {_alarms(trial.alarms.cell(cell.tolerance, cell.needed)):>20}"
         alone = "" if cell.alone is None else f"  {100 * cell.alone / cell.frames:.1f}% alone, wrong names {_counted(cell.wrong_alone, none_seen(cell.alone))}"
         lines.append(f"{cell.tolerance:>17} {angle:>9} {cell.needed:>6} {100 * cell.accepted / cell.frames:>7.1f}% {100 * cell.accepted / trial.drawn:>6.1f}% {counts} {errors}{alone}")
     return "\n".join([*lines, _advice(trial)])
@@ -274,6 +281,11 @@ def _counted(count, bound):
     return str(count) if count else f"0 (< {100 * bound:.2f} %)"
 
 
+def _alarms(cell):
+    """The share of the lists with no star behind them that were accepted."""
+    return "-" if cell is None else in_words(cell.accepted, cell.lists)
+
+
 def _errors(median, most):
     """Median and 95 % in arc seconds."""
     return "-" if median is None else f"{median:.0f}″, {most:.0f}″"
@@ -281,9 +293,20 @@ def _errors(median, most):
 
 def _advice(trial):
     best = trial.recommended
-    if best is None:
+    if best is None and trial.alarms is None:
         return "no pair can be recommended: each has wrong names, or accepts nothing"
-    return (
+    if best is None:
+        return f"no pair can be recommended: each has wrong names, accepts nothing, or has false alarms that may reach {_one_in(trial.limit)}"
+    told = (
         f"recommended: tolerance {best.tolerance}, needed {best.needed}; accepts {best.accepted} of {best.frames} frames, no wrong name seen, "
         f"so fewer than {100 * best.bound:.2f} % of the accepted (95 %, exact binomial)"
     )
+    if trial.alarms is None:
+        return told
+    alarms = trial.alarms.cell(best.tolerance, best.needed)
+    return f"{told}; of {alarms.lists} lists with no star behind them {alarms.accepted} accepted, so fewer than {_one_in(alarms.bound)}"
+
+
+def _one_in(rate):
+    """A small rate in words."""
+    return f"1 in {1 / rate:,.0f}"

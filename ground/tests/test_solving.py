@@ -154,3 +154,14 @@ def test_simulations_that_make_no_sense(run, folder):
         status, out, err = run("simulate", folder, *words)
         assert (status, out) == (2, "") and len(err.splitlines()) == 1
         assert not (folder / "frame.bin").exists()
+
+
+def test_a_catalogue_of_a_part_of_the_sky_is_simulated_there(settings, catalogue):
+    """Attitudes for a region are drawn near it, all equally likely: as many on either side of its middle."""
+    part = catalogue[catalogue["z"] > 0.93 * 10**9]
+    narrow = replace(settings, focal=4 * settings.focal)
+    made = [simulate(narrow, part, (7, number), Weather(least=1)) for number in range(60)]
+    assert max(each.draws for each in made) < 200 and all(len(each.stars) >= 1 for each in made)
+    middle = np.array([part[axis].astype(float).sum() for axis in "xyz"])
+    sides = np.sign([np.dot(np.cross(each.matrix[2], middle / np.linalg.norm(middle)), [1, 0, 0]) for each in made])
+    assert 15 < np.count_nonzero(sides > 0) < 45

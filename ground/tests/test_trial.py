@@ -44,7 +44,8 @@ def test_the_recommended_pair():
 
 
 def test_a_small_trial(run, folder, tmp_path):
-    words = ("trial", folder, "--frames", 12, "--seed", 3, "--needed", 3, 4, "--tolerances", 2 * 10**14, 10**15)
+    lists = ("--lists", 60, "--alarms", 0.06)
+    words = ("trial", folder, "--frames", 12, "--seed", 3, "--needed", 3, 4, "--tolerances", 2 * 10**14, 10**15, *lists)
     status, out, _ = run(*words, "--processes", 1, "--json", "--plot", tmp_path / "t.png")
     one = json.loads(out)
     assert status == 0 and len(one["cells"]) == 4 and (tmp_path / "t.png").stat().st_size > 5000
@@ -86,13 +87,13 @@ def test_a_plot_that_cannot_be_written_is_told_before_the_trial(run, folder, tmp
 
 
 def test_a_mirrored_readout_is_not_accepted(run, folder):
-    words = ("--frames", 12, "--needed", 5, "--tolerances", 186 * 10**12, "--mirror", "--least", 6, "--json")
+    words = ("--frames", 12, "--needed", 5, "--tolerances", 186 * 10**12, "--mirror", "--least", 6, "--lists", 0, "--json")
     status, out, _ = run("trial", folder, *words)
     assert status == 0 and json.loads(out)["cells"][0]["accepted"] == 0 and json.loads(out)["recommended"] is None
 
 
 def test_rivals_are_counted(run, folder):
-    words = ("trial", folder, "--frames", 8, "--needed", 3, 4, "--tolerances", 2 * 10**14, "--json")
+    words = ("trial", folder, "--frames", 8, "--needed", 3, 4, "--tolerances", 2 * 10**14, "--lists", 0, "--json")
     with_rivals, without = json.loads(run(*words, "--rivals")[1])["cells"], json.loads(run(*words)[1])["cells"]
     for each, other in zip(with_rivals, without):
         assert other["alone"] is None and each["accepted"] == other["accepted"]

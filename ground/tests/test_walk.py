@@ -22,7 +22,7 @@ def test_the_walk(tmp_path):
     assert [line.split()[1] for line in lines] == ["frame", "catalogue", "settings", "solve", "picture", "trial"]
     answers = {}
     for line in lines:
-        words = re.sub(r"\bnight\b", str(tmp_path / "night"), line).replace("--frames 500", "--frames 10")
+        words = re.sub(r"\bnight\b", str(tmp_path / "night"), line).replace("--frames 500", "--frames 10 --lists 100 --alarms 0.05")
         environment = {**os.environ, "MNEMATHOR_PYTHON": sys.executable}
         done = subprocess.run(words.split(), cwd=ROOT, env=environment, capture_output=True, text=True, check=False)
         assert done.returncode == 0, (line, done.stderr)
