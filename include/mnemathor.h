@@ -78,7 +78,7 @@ enum mn_refused {
     MN_REFUSED_SETTINGS = 5,      /* cx or cy is out of range, or a position handed in is */
     MN_REFUSED_CATALOGUE = 6,     /* the catalogue's length is no multiple of a record's, or not that of 1 to 512 records */
     MN_REFUSED_RECORD = 7,        /* a record breaks its rule; place: the first such record */
-    MN_REFUSED_DIRECTIONS = 8,    /* more than 8 directions, or a component beyond 10^9 */
+    MN_REFUSED_DIRECTIONS = 8,    /* more than 8 directions, or a component beyond 10^9; in the archive's calls also other than 12 numbers of an attitude or 3 of a target */
     MN_REFUSED_DEMAND = 9,        /* the needed count or the tolerance is out of range */
     MN_REFUSED_ROOM = 10,         /* the ranking room is too short */
     MN_REFUSED_RANKING = 11,      /* the ranking read has a wrong length (place 0) or a wrong entry; place: the first such entry */
@@ -88,12 +88,12 @@ enum mn_refused {
     MN_REFUSED_PIXEL = 15,        /* the pixel asked for is outside the frame */
     MN_REFUSED_INDEX_ROOM = 16,   /* the room is shorter than the index */
     MN_REFUSED_INDEX = 17,        /* the index is not the one for this catalogue and floor */
-    MN_REFUSED_RECORDS_ROOM = 18, /* the answer room is shorter than a burst's records */
+    MN_REFUSED_RECORDS_ROOM = 18, /* the answer room is shorter than a burst's records; in the archive's calls also than 9 or 3 floats */
     MN_REFUSED_LENS = 19,         /* a number of the lens is not above zero, the focal length is out of range, or the kind is none */
     MN_REFUSED_CHANGES_ROOM = 20, /* the room is shorter than the list of changes */
     MN_REFUSED_CUT = 21,          /* nothing would be kept of the catalogue */
-    MN_REFUSED_GUIDER = 22,       /* a guider or a list breaks its rule */
-    MN_REFUSED_ENTRY = 23         /* a matrix entry handed in is beyond 8 x 10^9 */
+    MN_REFUSED_GUIDER = 22,       /* a guider or a list breaks its rule, in the archive's calls also by its length */
+    MN_REFUSED_ENTRY = 23         /* a matrix entry handed in is beyond 8 x 10^9; in the archive's calls also other than 9 entries or floats of rows */
 };
 
 /* Verdicts on a pixel, in the order in which they are tried. */
