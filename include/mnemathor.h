@@ -57,6 +57,29 @@ enum {
     MN_UNIT = 1000000000       /* stands for 1 in directions and matrices */
 };
 
+/* Where an answer stands among the numbers that a call of the archive hands over; what else there is, is 0. docs/FLIGHT.md has every call's. */
+enum mn_place {
+    MN_AT_NUMBER = 0,       /* the refusal's number, 0 if the call is accepted */
+    MN_AT_PLACE = 1,        /* the refusal's place */
+    MN_AT_OWN = 2,          /* the answer's own: a count, a direction, a matrix by rows, whether there is a rival */
+    MN_AT_NAMES = 3,        /* of a search or a rival: the star of each of 8 directions */
+    MN_AT_ROW = 2,          /* of a verdict: row, column, kind and three numbers of the centroid */
+    MN_AT_COLUMN = 3,
+    MN_AT_KIND = 4,
+    MN_AT_CENTROID = 5,
+    MN_AT_REASON = 2,       /* of a reason: its kind, and three numbers that it names */
+    MN_AT_FIRST = 3,
+    MN_AT_SECOND = 4,
+    MN_AT_THIRD = 5,
+    MN_AT_COUNT = 2,        /* of a list: its four counts, and three numbers of each star */
+    MN_AT_MEASURED = 3,
+    MN_AT_EDGE = 4,
+    MN_AT_LONE = 5,
+    MN_AT_STARS = 6,
+    MN_AT_CHAIN_NAMES = 30, /* of a chain, behind its list: the star of each of 8 directions, and the matrix by rows */
+    MN_AT_CHAIN_MATRIX = 38
+};
+
 /* Numbers of a refusal. docs/FLIGHT.md says what each means in flight. */
 enum mn_refused {
     MN_ACCEPTED = 0,
@@ -67,7 +90,7 @@ enum mn_refused {
     MN_REFUSED_SETTINGS = 5,      /* cx or cy is out of range, or a position handed in is */
     MN_REFUSED_CATALOGUE = 6,     /* the catalogue's length is no multiple of a record's, or not that of 1 to 512 records */
     MN_REFUSED_RECORD = 7,        /* a record breaks its rule; place: the first such record */
-    MN_REFUSED_DIRECTIONS = 8,    /* more than 8 directions, or a component beyond 10^9 */
+    MN_REFUSED_DIRECTIONS = 8,    /* more than 8 directions, or a component beyond 10^9; in the archive's calls also other than 12 numbers of an attitude or 3 of a target */
     MN_REFUSED_DEMAND = 9,        /* the needed count or the tolerance is out of range */
     MN_REFUSED_ROOM = 10,         /* the ranking room is too short */
     MN_REFUSED_RANKING = 11,      /* the ranking read has a wrong length (place 0) or a wrong entry; place: the first such entry */
@@ -77,12 +100,12 @@ enum mn_refused {
     MN_REFUSED_PIXEL = 15,        /* the pixel asked for is outside the frame */
     MN_REFUSED_INDEX_ROOM = 16,   /* the room is shorter than the index */
     MN_REFUSED_INDEX = 17,        /* the index is not the one for this catalogue and floor */
-    MN_REFUSED_RECORDS_ROOM = 18, /* the answer room is shorter than a burst's records */
+    MN_REFUSED_RECORDS_ROOM = 18, /* the answer room is shorter than a burst's records; in the archive's calls also than 9 or 3 floats */
     MN_REFUSED_LENS = 19,         /* a number of the lens is not above zero, the focal length is out of range, or the kind is none */
     MN_REFUSED_CHANGES_ROOM = 20, /* the room is shorter than the list of changes */
     MN_REFUSED_CUT = 21,          /* nothing would be kept of the catalogue */
-    MN_REFUSED_GUIDER = 22,       /* a guider or a list breaks its rule */
-    MN_REFUSED_ENTRY = 23         /* a matrix entry handed in is beyond 8 x 10^9 */
+    MN_REFUSED_GUIDER = 22,       /* a guider or a list breaks its rule, in the archive's calls also by its length */
+    MN_REFUSED_ENTRY = 23         /* a matrix entry handed in is beyond 8 x 10^9; in the archive's calls also other than 9 entries or floats of rows */
 };
 
 /* Verdicts on a pixel, in the order in which they are tried. */
@@ -236,7 +259,8 @@ struct mn_framed {
     struct mn_matrix matrix;
 };
 
-/* The archive's functions. Each writes its answer into `out`, where there is room for MN_NUMBERS. */
+/* The archive's functions. Each writes its answer into `out`, refused or not: number and place of a refusal first, and zeros where there is no answer. Lists and
+ * rooms of a wrong length are refused like any other input. Only an `out` with room for fewer than MN_NUMBERS stays as it was, since nothing can be told there. */
 
 void mnemathor_verdict(const uint16_t *samples, size_t samples_len, size_t width, size_t height, size_t threshold, size_t row, size_t column, int64_t *out,
                        size_t out_len);
@@ -279,8 +303,8 @@ void mnemathor_guider_frame(int64_t *guider, size_t guider_len, const int64_t *l
 static inline struct mn_refusal mn_take_refusal(const int64_t *out)
 {
     struct mn_refusal refusal;
-    refusal.number = out[0];
-    refusal.place = out[1];
+    refusal.number = out[MN_AT_NUMBER];
+    refusal.place = out[MN_AT_PLACE];
     return refusal;
 }
 
@@ -294,12 +318,12 @@ static inline void mn_take_centroid(const int64_t *numbers, struct mn_centroid *
 static inline void mn_take_report(const int64_t *out, struct mn_report *report)
 {
     size_t k;
-    report->count = out[2];
-    report->measured = out[3];
-    report->edge = out[4];
-    report->lone = out[5];
+    report->count = out[MN_AT_COUNT];
+    report->measured = out[MN_AT_MEASURED];
+    report->edge = out[MN_AT_EDGE];
+    report->lone = out[MN_AT_LONE];
     for (k = 0; k < MN_STARS; k++)
-        mn_take_centroid(out + 6 + 3 * k, &report->stars[k]);
+        mn_take_centroid(out + MN_AT_STARS + 3 * k, &report->stars[k]);
 }
 
 static inline void mn_take_stars(const int64_t *numbers, int64_t *stars)
@@ -320,9 +344,9 @@ static inline void mn_take_matrix(const int64_t *numbers, struct mn_matrix *matr
 static inline void mn_take_tracked(const int64_t *out, struct mn_tracked *tracked)
 {
     mn_take_report(out, &tracked->report);
-    tracked->assignment.count = out[2];
-    mn_take_stars(out + 30, tracked->assignment.stars);
-    mn_take_matrix(out + 38, &tracked->matrix);
+    tracked->assignment.count = out[MN_AT_COUNT];
+    mn_take_stars(out + MN_AT_CHAIN_NAMES, tracked->assignment.stars);
+    mn_take_matrix(out + MN_AT_CHAIN_MATRIX, &tracked->matrix);
 }
 
 static inline void mn_take_guider(const int64_t *numbers, struct mn_guider *guider)
@@ -355,18 +379,18 @@ static inline void mn_give_guider(const struct mn_guider *guider, int64_t *numbe
 static inline void mn_give_report(struct mn_refusal seen, const struct mn_report *report, int64_t *numbers)
 {
     size_t k;
-    numbers[0] = seen.number;
-    numbers[1] = seen.place;
-    numbers[2] = report->count;
-    numbers[3] = report->measured;
-    numbers[4] = report->edge;
-    numbers[5] = report->lone;
+    numbers[MN_AT_NUMBER] = seen.number;
+    numbers[MN_AT_PLACE] = seen.place;
+    numbers[MN_AT_COUNT] = report->count;
+    numbers[MN_AT_MEASURED] = report->measured;
+    numbers[MN_AT_EDGE] = report->edge;
+    numbers[MN_AT_LONE] = report->lone;
     for (k = 0; k < MN_STARS; k++) {
-        numbers[6 + 3 * k] = report->stars[k].x;
-        numbers[7 + 3 * k] = report->stars[k].y;
-        numbers[8 + 3 * k] = report->stars[k].brightness;
+        numbers[MN_AT_STARS + 3 * k] = report->stars[k].x;
+        numbers[MN_AT_STARS + 3 * k + 1] = report->stars[k].y;
+        numbers[MN_AT_STARS + 3 * k + 2] = report->stars[k].brightness;
     }
-    for (k = 30; k < MN_NUMBERS; k++)
+    for (k = MN_AT_STARS + 3 * MN_STARS; k < MN_NUMBERS; k++)
         numbers[k] = 0;
 }
 
@@ -413,10 +437,10 @@ MN_FUNCTION struct mn_refusal mn_verdict(const uint16_t *samples, size_t samples
 {
     int64_t out[MN_NUMBERS];
     mnemathor_verdict(samples, samples_len, settings->width, settings->height, settings->threshold, row, column, out, MN_NUMBERS);
-    verdict->row = out[2];
-    verdict->column = out[3];
-    verdict->kind = out[4];
-    mn_take_centroid(out + 5, &verdict->centroid);
+    verdict->row = out[MN_AT_ROW];
+    verdict->column = out[MN_AT_COLUMN];
+    verdict->kind = out[MN_AT_KIND];
+    mn_take_centroid(out + MN_AT_CENTROID, &verdict->centroid);
     return mn_take_refusal(out);
 }
 
@@ -427,16 +451,16 @@ MN_FUNCTION struct mn_refusal mn_reason(const uint16_t *samples, size_t samples_
 {
     int64_t out[MN_NUMBERS];
     mnemathor_reason(samples, samples_len, settings->width, settings->height, settings->threshold, row, column, out, MN_NUMBERS);
-    reason->kind = out[2];
-    reason->sample = out[2] == MN_DARK ? out[3] : 0;
-    reason->threshold = out[2] == MN_DARK ? out[4] : 0;
-    reason->row = out[2] == MN_BEATEN ? out[3] : 0;
-    reason->column = out[2] == MN_BEATEN ? out[4] : 0;
-    reason->side = out[2] == MN_EDGE ? out[3] : 0;
-    reason->largest = out[2] == MN_LONE ? out[3] : 0;
-    reason->centroid.x = out[2] == MN_MEASURED ? out[3] : 0;
-    reason->centroid.y = out[2] == MN_MEASURED ? out[4] : 0;
-    reason->centroid.brightness = out[2] == MN_MEASURED ? out[5] : 0;
+    reason->kind = out[MN_AT_REASON];
+    reason->sample = out[MN_AT_REASON] == MN_DARK ? out[MN_AT_FIRST] : 0;
+    reason->threshold = out[MN_AT_REASON] == MN_DARK ? out[MN_AT_SECOND] : 0;
+    reason->row = out[MN_AT_REASON] == MN_BEATEN ? out[MN_AT_FIRST] : 0;
+    reason->column = out[MN_AT_REASON] == MN_BEATEN ? out[MN_AT_SECOND] : 0;
+    reason->side = out[MN_AT_REASON] == MN_EDGE ? out[MN_AT_FIRST] : 0;
+    reason->largest = out[MN_AT_REASON] == MN_LONE ? out[MN_AT_FIRST] : 0;
+    reason->centroid.x = out[MN_AT_REASON] == MN_MEASURED ? out[MN_AT_FIRST] : 0;
+    reason->centroid.y = out[MN_AT_REASON] == MN_MEASURED ? out[MN_AT_SECOND] : 0;
+    reason->centroid.brightness = out[MN_AT_REASON] == MN_MEASURED ? out[MN_AT_THIRD] : 0;
     return mn_take_refusal(out);
 }
 
@@ -455,7 +479,7 @@ MN_FUNCTION struct mn_refusal mn_lens(const struct mn_lens *lens, int64_t *focal
 {
     int64_t out[MN_NUMBERS];
     mnemathor_lens(lens->kind, lens->focal_length, lens->pitch, out, MN_NUMBERS);
-    *focal_length = out[2];
+    *focal_length = out[MN_AT_OWN];
     return mn_take_refusal(out);
 }
 
@@ -464,9 +488,9 @@ MN_FUNCTION struct mn_refusal mn_direction(const struct mn_settings *settings, i
 {
     int64_t out[MN_NUMBERS];
     mnemathor_direction(settings->cx, settings->cy, settings->lens.kind, settings->lens.focal_length, settings->lens.pitch, x, y, out, MN_NUMBERS);
-    direction->x = (int32_t)out[2];
-    direction->y = (int32_t)out[3];
-    direction->z = (int32_t)out[4];
+    direction->x = (int32_t)out[MN_AT_OWN];
+    direction->y = (int32_t)out[MN_AT_OWN + 1];
+    direction->z = (int32_t)out[MN_AT_OWN + 2];
     return mn_take_refusal(out);
 }
 
@@ -475,7 +499,7 @@ MN_FUNCTION struct mn_refusal mn_catalogue(const uint8_t *catalogue, size_t cata
 {
     int64_t out[MN_NUMBERS];
     mnemathor_catalogue(catalogue, catalogue_len, out, MN_NUMBERS);
-    *records = out[2];
+    *records = out[MN_AT_OWN];
     return mn_take_refusal(out);
 }
 
@@ -495,7 +519,7 @@ MN_FUNCTION struct mn_refusal mn_index(const uint8_t *catalogue, size_t catalogu
 {
     int64_t out[MN_NUMBERS];
     mnemathor_index(catalogue, catalogue_len, floor, room, room_len, out, MN_NUMBERS);
-    *records = out[2];
+    *records = out[MN_AT_OWN];
     return mn_take_refusal(out);
 }
 
@@ -518,7 +542,7 @@ MN_FUNCTION struct mn_refusal mn_compare(const uint8_t *first, size_t first_len,
 {
     int64_t out[MN_NUMBERS];
     mnemathor_compare(first, first_len, second, second_len, room, room_len, out, MN_NUMBERS);
-    *records = out[2];
+    *records = out[MN_AT_OWN];
     return mn_take_refusal(out);
 }
 
@@ -529,7 +553,7 @@ MN_FUNCTION struct mn_refusal mn_cut(uint8_t *catalogue, size_t catalogue_len, i
 {
     int64_t out[MN_NUMBERS];
     mnemathor_cut(catalogue, catalogue_len, limit, closeness, out, MN_NUMBERS);
-    *records = out[2];
+    *records = out[MN_AT_OWN];
     return mn_take_refusal(out);
 }
 
@@ -541,8 +565,8 @@ MN_FUNCTION struct mn_refusal mn_search(const struct mn_direction *directions, s
     int64_t out[MN_NUMBERS];
     mnemathor_search(mn_give_directions(directions), 3 * directions_count, catalogue, catalogue_len, settings->needed, settings->tolerance, ranking, ranking_len,
                      out, MN_NUMBERS);
-    assignment->count = out[2];
-    mn_take_stars(out + 3, assignment->stars);
+    assignment->count = out[MN_AT_OWN];
+    mn_take_stars(out + MN_AT_NAMES, assignment->stars);
     return mn_take_refusal(out);
 }
 
@@ -554,8 +578,8 @@ MN_FUNCTION struct mn_refusal mn_rival(const struct mn_direction *directions, si
     int64_t out[MN_NUMBERS];
     mnemathor_rival(mn_give_directions(directions), 3 * directions_count, catalogue, catalogue_len, settings->needed, settings->tolerance, ranking, ranking_len,
                     out, MN_NUMBERS);
-    rival->exists = out[2];
-    mn_take_stars(out + 3, rival->stars);
+    rival->exists = out[MN_AT_OWN];
+    mn_take_stars(out + MN_AT_NAMES, rival->stars);
     return mn_take_refusal(out);
 }
 
@@ -570,7 +594,7 @@ MN_FUNCTION struct mn_refusal mn_attitude(const struct mn_direction *first, cons
     mn_give_direction(first_star, vectors + 6);
     mn_give_direction(second_star, vectors + 9);
     mnemathor_attitude(vectors, 12, out, MN_NUMBERS);
-    mn_take_matrix(out + 2, matrix);
+    mn_take_matrix(out + MN_AT_OWN, matrix);
     return mn_take_refusal(out);
 }
 
@@ -646,7 +670,7 @@ MN_FUNCTION struct mn_refusal mn_burst(const uint16_t *samples, size_t samples_l
     mnemathor_burst(samples, samples_len, settings->width, settings->height, settings->threshold, settings->cx, settings->cy, settings->lens.kind,
                     settings->lens.focal_length, settings->lens.pitch, catalogue, catalogue_len, settings->needed, settings->tolerance, room, room_len, records,
                     records_len, out, MN_NUMBERS);
-    *frames = out[2];
+    *frames = out[MN_AT_OWN];
     return mn_take_refusal(out);
 }
 

@@ -68,7 +68,7 @@ def test_the_drawing_has_every_mark(settings, catalogue, orion):
     report = library.list_stars(orion.samples, settings)
     marks = pictures.bright_pixels(orion.samples, settings, report)
     assert {kind: len(found) for kind, found in marks.items()} == {"edge": report.edge, "lone": report.lone, "measured": report.measured}
-    rings = [patch for patch in axes.patches if isinstance(patch, Circle) and patch.radius == pictures.RING]
+    rings = [patch for patch in axes.patches if isinstance(patch, Circle) and patch.radius == pictures.ring(settings)]
     places = {(star.x / 256, star.y / 256) for star in report.stars}
     assert {ring.center for ring in rings} == places
     texts = {text.get_text() for text in axes.texts}

@@ -19,6 +19,21 @@ impl Refusal {
     }
 }
 
+/// Just so many elements; another count is refused with this number.
+pub fn counted<T: Copy, const N: usize>(values: &[T], number: u8) -> Result<[T; N], Refusal> {
+    values.try_into().map_err(|_| Refusal::new(number))
+}
+
+/// The same of a buffer that is written.
+pub fn counted_mut<T, const N: usize>(values: &mut [T], number: u8) -> Result<&mut [T; N], Refusal> {
+    values.try_into().map_err(|_| Refusal::new(number))
+}
+
+/// The start of a room; one with fewer elements is refused with this number.
+pub fn room_for<T, const N: usize>(room: &mut [T], number: u8) -> Result<&mut [T; N], Refusal> {
+    room.first_chunk_mut().ok_or(Refusal::new(number))
+}
+
 /// A star's measured position in 1/256 pixel, and its brightness.
 #[derive(Debug, Clone, Copy, PartialEq, Eq)]
 pub struct Centroid {

@@ -1,6 +1,6 @@
 //! One call of an entry point with all it is lent, its form in the recorded cases, and its outcome.
 
-use crate::answer::{numbers, Numbers};
+use crate::answer::{counted, counted_mut, numbers, room_for, Numbers};
 use crate::burst::burst_within;
 use crate::chain::{chain_by_index_within, chain_within, Settings};
 use crate::compare::compare;
@@ -531,7 +531,9 @@ impl Call {
                 &lent.ranking,
                 effort,
             )?),
-            Entry::Attitude => numbers(&attitude::attitude(&exactly(&lent.vectors))),
+            Entry::Attitude => {
+                numbers(&counted(&lent.vectors, 8).and_then(|vectors| attitude::attitude(&vectors)))
+            }
             Entry::Chain => {
                 numbers(&chain_within(&lent.samples, &set, &lent.catalogue, &mut lent.room, effort)?)
             }
@@ -562,15 +564,15 @@ impl Call {
                 &mut lent.bytes,
                 effort,
             )?),
-            Entry::Cosines => {
-                let rows = gimbal::cosines(&exactly(&lent.matrix));
-                numbers(&rows.map(|rows| lent.rows.copy_from_slice(&rows)))
-            }
-            Entry::Turned => {
-                let turned = gimbal::turned(&exactly(&lent.rows), &exactly(&lent.target));
-                lent.turned.copy_from_slice(&turned);
-                numbers(&Ok(()))
-            }
+            Entry::Cosines => numbers(&room_for(&mut lent.rows, 18).and_then(|room| {
+                *room = gimbal::cosines(&counted(&lent.matrix, 23)?)?;
+                Ok(())
+            })),
+            Entry::Turned => numbers(&counted(&lent.target, 8).and_then(|target| {
+                let room = room_for(&mut lent.turned, 18)?;
+                *room = gimbal::turned(&counted(&lent.rows, 23)?, &target);
+                Ok(())
+            })),
             Entry::Lens => numbers(&self.lens.focal().map(|focal| focal as usize)),
             Entry::Compare => numbers(&compare(&lent.catalogue, &lent.other, &mut lent.bytes)),
             Entry::Rival => numbers(&rival_within(
@@ -585,10 +587,10 @@ impl Call {
             Entry::GuiderStart => {
                 numbers(&guider::guider_start(self.half_width, &lent.guides, &mut lent.guider))
             }
-            Entry::GuiderFrame => {
-                let guider = (&mut lent.guider[..]).try_into().expect("the call is lent a guider");
-                numbers(&guider::guider_frame(guider, &exactly(&lent.list)))
-            }
+            Entry::GuiderFrame => numbers(
+                &counted_mut(&mut lent.guider, 22)
+                    .and_then(|guider| guider::guider_frame(guider, &counted(&lent.list, 22)?)),
+            ),
         };
         Ok(Outcome { out, lent })
     }
@@ -624,7 +626,9 @@ impl Call {
                 self.tolerance,
                 &lent.ranking,
             )),
-            Entry::Attitude => numbers(&plain::attitude(&exactly(&lent.vectors))),
+            Entry::Attitude => {
+                numbers(&counted(&lent.vectors, 8).and_then(|vectors| plain::attitude(&vectors)))
+            }
             Entry::Chain => numbers(&plain::chain(
                 &lent.samples,
                 width,
@@ -674,16 +678,17 @@ impl Call {
                 &mut lent.room,
                 &mut lent.bytes,
             )),
-            Entry::Cosines => {
-                let rows = plain::cosines(&exactly(&lent.matrix));
-                numbers(&rows.map(|rows| lent.rows.copy_from_slice(&rows.map(f64::to_bits))))
-            }
-            Entry::Turned => {
-                let (rows, target) = (exactly(&lent.rows), exactly(&lent.target));
-                let turned = plain::turned(&rows.map(f64::from_bits), &target.map(f64::from_bits));
-                lent.turned.copy_from_slice(&turned.map(f64::to_bits));
-                numbers(&Ok(()))
-            }
+            Entry::Cosines => numbers(&room_for(&mut lent.rows, 18).and_then(|room| {
+                *room = plain::cosines(&counted(&lent.matrix, 23)?)?.map(f64::to_bits);
+                Ok(())
+            })),
+            Entry::Turned => numbers(&counted(&lent.target, 8).and_then(|target: [Float; 3]| {
+                let room = room_for(&mut lent.turned, 18)?;
+                let rows: [Float; 9] = counted(&lent.rows, 23)?;
+                *room =
+                    plain::turned(&rows.map(f64::from_bits), &target.map(f64::from_bits)).map(f64::to_bits);
+                Ok(())
+            })),
             Entry::Lens => numbers(&plain::lens(lens).map(|focal| focal as usize)),
             Entry::Compare => numbers(&plain::compare(&lent.catalogue, &lent.other, &mut lent.bytes)),
             Entry::Rival => numbers(&plain::rival(
@@ -694,14 +699,14 @@ impl Call {
                 &lent.ranking,
             )),
             Entry::Cut => numbers(&plain::cut(&mut lent.catalogue, self.limit, self.closeness)),
-            Entry::GuiderStart => {
-                let guider = plain::guider_start(self.half_width, &lent.guides);
-                numbers(&guider.map(|guider| lent.guider.copy_from_slice(&guider)))
-            }
-            Entry::GuiderFrame => {
-                let guider = (&mut lent.guider[..]).try_into().expect("the call is lent a guider");
-                numbers(&plain::guider_frame(guider, &exactly(&lent.list)))
-            }
+            Entry::GuiderStart => numbers(&counted_mut(&mut lent.guider, 22).and_then(|guider| {
+                *guider = plain::guider_start(self.half_width, &lent.guides)?;
+                Ok(())
+            })),
+            Entry::GuiderFrame => numbers(
+                &counted_mut(&mut lent.guider, 22)
+                    .and_then(|guider| plain::guider_frame(guider, &counted(&lent.list, 22)?)),
+            ),
             Entry::Reason => {
                 let (row, column) = (self.row as usize, self.column as usize);
                 numbers(&plain::reason(&lent.samples, width, height, threshold, row, column))

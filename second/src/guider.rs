@@ -125,8 +125,12 @@ fn is_position(position: &Position) -> bool {
     position.iter().all(|part| (0..=FARTHEST).contains(part))
 }
 
-/// The call of a start: writes the guider's numbers where it is accepted.
+/// The call of a start: writes the guider's numbers where it is accepted. A room for another count of numbers is
+/// refused.
 pub fn guider_start(half_width: i64, guides: &[i64], guider: &mut [i64]) -> Result<(), Refusal> {
+    if guider.len() != GUIDER_NUMBERS {
+        return Err(Refusal::new(22));
+    }
     Guider::start(half_width, guides)?.write(guider);
     Ok(())
 }

@@ -1,8 +1,7 @@
 //! Stands in for the proved library's archive: its C functions, built on plain Rust, or on the wide
 //! implementation where plain Rust has no such call. It lets `compare` and `bench` be tried without the archive.
 
-use crate::answer::{numbers, Answer, Refusal};
-use crate::guider::GUIDER_NUMBERS;
+use crate::answer::{counted, counted_mut, numbers, room_for, Answer, Refusal};
 use crate::{frame, plain};
 use std::slice;
 
@@ -129,10 +128,8 @@ unsafe extern "C" fn mnemathor_attitude(
     out: *mut i64,
     out_len: usize,
 ) {
-    // Another length than twelve: nothing is done.
-    if let Ok(vectors) = from_raw_parts(vectors, vectors_len).try_into() {
-        answer(out, out_len, || plain::attitude(vectors));
-    }
+    let vectors = from_raw_parts(vectors, vectors_len);
+    answer(out, out_len, || plain::attitude(&counted(vectors, 8)?));
 }
 
 #[no_mangle]
@@ -300,11 +297,13 @@ unsafe extern "C" fn mnemathor_cosines(
     out: *mut i64,
     out_len: usize,
 ) {
-    // Another length than nine: nothing is done.
-    let rows: Result<&mut [f64; 9], _> = from_raw_parts_mut(rows, rows_len).try_into();
-    if let (Ok(matrix), Ok(rows)) = (from_raw_parts(matrix, matrix_len).try_into(), rows) {
-        answer(out, out_len, || plain::cosines(matrix).map(|cosines| *rows = cosines));
-    }
+    let matrix = from_raw_parts(matrix, matrix_len);
+    let rows = from_raw_parts_mut(rows, rows_len);
+    answer(out, out_len, || {
+        let room = room_for(rows, 18)?;
+        *room = plain::cosines(&counted(matrix, 23)?)?;
+        Ok(())
+    });
 }
 
 #[no_mangle]
@@ -319,11 +318,13 @@ unsafe extern "C" fn mnemathor_turned(
     out_len: usize,
 ) {
     let (rows, target) = (from_raw_parts(rows, rows_len), from_raw_parts(target, target_len));
-    let turned: Result<&mut [f64; 3], _> = from_raw_parts_mut(turned, turned_len).try_into();
-    if let (Ok(rows), Ok(target), Ok(turned)) = (rows.try_into(), target.try_into(), turned) {
-        *turned = plain::turned(rows, target);
-        answer(out, out_len, || Ok(()));
-    }
+    let turned = from_raw_parts_mut(turned, turned_len);
+    answer(out, out_len, || {
+        let target = counted(target, 8)?;
+        let room = room_for(turned, 18)?;
+        *room = plain::turned(&counted(rows, 23)?, &target);
+        Ok(())
+    });
 }
 
 #[no_mangle]
@@ -390,11 +391,12 @@ unsafe extern "C" fn mnemathor_guider_start(
     out_len: usize,
 ) {
     let guides = from_raw_parts(guides, guides_len);
-    // Another length than a guider's: nothing is done.
-    let guider: Result<&mut [i64; GUIDER_NUMBERS], _> = from_raw_parts_mut(guider, guider_len).try_into();
-    if let Ok(guider) = guider {
-        answer(out, out_len, || plain::guider_start(half_width, guides).map(|started| *guider = started));
-    }
+    let guider = from_raw_parts_mut(guider, guider_len);
+    answer(out, out_len, || {
+        let guider = counted_mut(guider, 22)?;
+        *guider = plain::guider_start(half_width, guides)?;
+        Ok(())
+    });
 }
 
 #[no_mangle]
@@ -406,8 +408,7 @@ unsafe extern "C" fn mnemathor_guider_frame(
     out: *mut i64,
     out_len: usize,
 ) {
-    let guider = from_raw_parts_mut(guider, guider_len).try_into();
-    if let (Ok(guider), Ok(list)) = (guider, from_raw_parts(list, list_len).try_into()) {
-        answer(out, out_len, || plain::guider_frame(guider, list));
-    }
+    let guider = from_raw_parts_mut(guider, guider_len);
+    let list = from_raw_parts(list, list_len);
+    answer(out, out_len, || plain::guider_frame(counted_mut(guider, 22)?, &counted(list, 22)?));
 }

@@ -18,7 +18,7 @@ fn of_whole(f: i64) -> [i64; 64]
     ensures { λ r. ⌜ r ≡ acceptedNumbers (f ∷ []) ⌝ }
 {
     let mut flat = [0i64; 64];
-    flat[2] = f;
+    flat[handover::OWN] = f;
     flat
 }
 

@@ -1,5 +1,7 @@
 // The C interface of the whole chain.
 use exports_frame::answers::of_report;
+use handover::CHAIN_MATRIX;
+use handover::CHAIN_NAMES;
 use handover::of_outcome;
 use handover::put_matrix;
 use handover::put_names;
@@ -21,8 +23,8 @@ pub fn of_chain(tracked: Tracked, stars: usize) -> [i64; 64]
     let words = tracked.stars;
     let matrix = tracked.matrix;
     let count = report.count;
-    let named = put_names(of_report(report), 30, words, count, stars);
-    of_outcome(outcome, put_matrix(named, 38, matrix))
+    let named = put_names(of_report(report), CHAIN_NAMES, words, count, stars);
+    of_outcome(outcome, put_matrix(named, CHAIN_MATRIX, matrix))
 }
 
 // The whole chain: the frame's list, the stars that it shows, and the attitude.

@@ -18,6 +18,31 @@ ghost use Rattle.handover.specs.Numbers.{acceptedNumbers};
 ghost use Rattle.exports_frame.specs.Frame.{centroidIn, judgedNumbers, verdictNumbers, reportNumbers, listingNumbers};
 ghost use Rattle.exports_frame.specs.Reason.{reasonNumbers, explanationNumbers};
 
+// Where the numbers of a verdict stand, of a reason, and of a frame's list before its stars.
+const ROW: usize = 2;
+
+const COLUMN: usize = 3;
+
+const KIND: usize = 4;
+
+const CENTROID: usize = 5;
+
+const REASON: usize = 2;
+
+const FIRST: usize = 3;
+
+const SECOND: usize = 4;
+
+const THIRD: usize = 5;
+
+const COUNT: usize = 2;
+
+const MEASURED: usize = 3;
+
+const EDGE: usize = 4;
+
+const LONE: usize = 5;
+
 fn nought() -> Centroid
     ensures { λ r. ⌜ r ≡ noughtOf ⌝ }
 {
@@ -46,10 +71,10 @@ fn of_judged(verdict: Verdict) -> [i64; 64]
 {
     let kind = verdict.kind;
     let mut flat = [0i64; 64];
-    flat[2] = signed(verdict.row as u64);
-    flat[3] = signed(verdict.column as u64);
-    flat[4] = signed(verdict::kind_number(kind) as u64);
-    put_star(flat, 5, centroid_in(kind))
+    flat[ROW] = signed(verdict.row as u64);
+    flat[COLUMN] = signed(verdict.column as u64);
+    flat[KIND] = signed(verdict::kind_number(kind) as u64);
+    put_star(flat, CENTROID, centroid_in(kind))
 }
 
 pub(crate) fn of_verdict(judgement: Judgement) -> [i64; 64]
@@ -66,10 +91,10 @@ fn of_reason(reason: Reason) -> [i64; 64]
 {
     let values = reason::values_of(reason);
     let mut flat = [0i64; 64];
-    flat[2] = signed(reason::reason_number(reason) as u64);
-    flat[3] = signed(values.first);
-    flat[4] = signed(values.second);
-    flat[5] = signed(values.third);
+    flat[REASON] = signed(reason::reason_number(reason) as u64);
+    flat[FIRST] = signed(values.first);
+    flat[SECOND] = signed(values.second);
+    flat[THIRD] = signed(values.third);
     flat
 }
 
@@ -88,10 +113,10 @@ pub fn of_report(report: Report) -> [i64; 64]
 {
     let stars = report.stars;
     let mut flat = [0i64; 64];
-    flat[2] = signed(report.count as u64);
-    flat[3] = signed(report.measured as u64);
-    flat[4] = signed(report.edge as u64);
-    flat[5] = signed(report.lone as u64);
+    flat[COUNT] = signed(report.count as u64);
+    flat[MEASURED] = signed(report.measured as u64);
+    flat[EDGE] = signed(report.edge as u64);
+    flat[LONE] = signed(report.lone as u64);
     put_stars(flat, stars)
 }
 

@@ -1,14 +1,14 @@
 -- The call for direction cosines. Assumes nothing.
-use mathlib.Core.Bool.{Bool, cond, _&&_}
+use mathlib.Core.Bool.{cond}
 use mathlib.Core.List.{List, []}
-use lib.Dec.{eqb, leb}
+use lib.Dec.{eqb, ltb}
 use lib.IntN.{ℤ}
 use lib.Ieee.{Float}
 use lib.ListN.{length}
+use Rattle.refusal.specs.Numbers as number
 use Rattle.gimbal.specs.declared.Gimbal.{Gimbal}
 use Rattle.gimbal.specs.declared.Gimbal.the-variants.{Refused, Rows}
 use Rattle.gimbal.specs.Cosines.{gimbalOf, cosinesFloats}
-use Rattle.handover.specs.Room.{handedOver}
 use Rattle.handover.specs.Numbers.{refusedNumbers, acceptedNumbers}
 use Rattle.exports_gimbal.specs.Rooms.{matrixIn, written}
 
@@ -21,13 +21,12 @@ abbrev pub cosinesNumbers : Gimbal → List ℤ
 cosinesNumbers (Refused r) = refusedNumbers r
 cosinesNumbers (Rows c) = acceptedNumbers []
 
--- there are nine entries, and there is room for nine floats
-abbrev pub taken : List ℤ → List Float → Bool
-taken xs rows = eqb (length xs) 9 && leb 9 (length rows)
+-- 18 without room for nine floats, 23 for another count of entries than nine, and then the matrix's own answer
+unfoldable pub cosinesOf : List ℤ → List Float → Gimbal
+cosinesOf xs rows =
+    cond (ltb (length rows) 9) (Refused (record { number = number.recordsRoom; place = 0 }))
+    (cond (eqb (length xs) 9) (gimbalOf (matrixIn xs)) (Refused (record { number = number.entry; place = 0 })))
 
--- the rooms after the call: they stay as they were where it is not taken
+-- the room after the call: a refused one leaves it as it was
 unfoldable pub cosinesRoom : List ℤ → List Float → List Float
-cosinesRoom xs rows = cond (taken xs rows) (written (floatsOf (gimbalOf (matrixIn xs))) rows) rows
-
-unfoldable pub cosinesHanded : List ℤ → List Float → List ℤ → List ℤ
-cosinesHanded xs rows out = cond (taken xs rows) (handedOver (cosinesNumbers (gimbalOf (matrixIn xs))) out) out
+cosinesRoom xs rows = written (floatsOf (cosinesOf xs rows)) rows

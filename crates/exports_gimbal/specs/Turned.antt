@@ -1,23 +1,22 @@
 -- The call for a target as the camera sees it. Assumes nothing.
-use mathlib.Core.Bool.{Bool, cond, _&&_}
-use mathlib.Core.List.{List, []}
-use lib.Dec.{eqb, leb}
-use lib.IntN.{ℤ}
+use mathlib.Core.Bool.{not}
+use mathlib.Core.List.{List, [], _∷_}
+use Prim.Native.Nat.{ℕ}
+use lib.Dec.{eqb, ltb}
 use lib.Ieee.{Float}
 use lib.ListN.{length}
+use Rattle.refusal.specs.declared.Outcome.{Outcome}
+use Rattle.refusal.specs.Numbers as number
+use Rattle.refusal.specs.Table.{row, lowest, answered}
 use Rattle.gimbal.specs.Cosines.{tripleFloats}
 use Rattle.gimbal.specs.Target.{turnedOf}
-use Rattle.handover.specs.Room.{handedOver}
-use Rattle.handover.specs.Numbers.{acceptedNumbers}
 use Rattle.exports_gimbal.specs.Rooms.{tripleAt, cosinesIn, written}
 
--- there are nine floats of rows and three of the target, and there is room for three
-abbrev pub taken : List Float → List Float → List Float → Bool
-taken rows target room = eqb (length rows) 9 && (eqb (length target) 3 && leb 3 (length room))
+-- by the lengths of the rows, the target and the room: 8 where the target is not three floats, 18 without room for three, 23 where the rows are not nine
+unfoldable pub turnedOutcome : ℕ → ℕ → ℕ → Outcome
+turnedOutcome rows target room = lowest (row (not (eqb target 3)) number.directions ∷ row (ltb room 3) number.recordsRoom ∷ row (not (eqb rows 9)) number.entry ∷ [])
 
--- the rooms after the call: they stay as they were where it is not taken
+-- the room after the call: a refused one leaves it as it was
 unfoldable pub turnedRoom : List Float → List Float → List Float → List Float
-turnedRoom rows target room = cond (taken rows target room) (written (tripleFloats (turnedOf (cosinesIn rows) (tripleAt target 0))) room) room
-
-unfoldable pub turnedHanded : List Float → List Float → List Float → List ℤ → List ℤ
-turnedHanded rows target room out = cond (taken rows target room) (handedOver (acceptedNumbers []) out) out
+turnedRoom rows target room =
+    answered (λ _. room) (written (tripleFloats (turnedOf (cosinesIn rows) (tripleAt target 0))) room) (turnedOutcome (length rows) (length target) (length room))

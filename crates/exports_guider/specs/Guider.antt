@@ -7,11 +7,11 @@ use lib.IntN.{ℤ}
 use lib.ListN.{length}
 use Rattle.refusal.specs.declared.Outcome.{Outcome}
 use Rattle.refusal.specs.declared.Outcome.the-variants.{Accepted, Refused}
+use Rattle.refusal.specs.Numbers as number
+use Rattle.refusal.specs.Table.{refusalOf}
 use Rattle.guiding.specs.declared.Guider.{Guider}
 use Rattle.guiding.specs.declared.Guided.{Guided}
 use Rattle.guiding.specs.Calls.{nobody, refusedWith, startedOf, guidedOf}
-use Rattle.handover.specs.Room.{handedOver}
-use Rattle.handover.specs.Numbers.{rankingNumbers}
 use Rattle.exports_guider.specs.Rooms.{size, unsignedOf, sightingsIn, guiderIn, withGuides, withGuider, listingIn}
 
 -- ---- start
@@ -28,12 +28,12 @@ begun g room (Refused _) = room
 abbrev pub startedRoom : Guided → List ℤ → List ℤ
 startedRoom answer room = begun (answer .guider) room (answer .outcome)
 
--- of another count of numbers nothing is done
+-- a room of other than 18 numbers is no guider's: 22, and it stays as it was
 unfoldable pub startRoom : ℤ → List ℤ → List ℤ → List ℤ
 startRoom half stars room = cond (eqb (length room) size) (startedRoom (startedIn half stars) room) room
 
-unfoldable pub startHanded : ℤ → List ℤ → List ℤ → List ℤ → List ℤ
-startHanded half stars room out = cond (eqb (length room) size) (handedOver (rankingNumbers (startedIn half stars .outcome)) out) out
+unfoldable pub startOutcome : ℤ → List ℤ → List ℤ → Outcome
+startOutcome half stars room = cond (eqb (length room) size) (startedIn half stars .outcome) (refusalOf number.guider 0)
 
 -- ---- a frame
 
@@ -48,12 +48,12 @@ gone g room (Refused _) = room
 abbrev pub framedRoom : Guided → List ℤ → List ℤ
 framedRoom answer room = gone (answer .guider) room (answer .outcome)
 
--- 18 numbers of a guider, and 64 of a list
+-- 18 numbers of a guider, and 64 of a list; others are refused with 22
 abbrev pub taken : List ℤ → List ℤ → Bool
 taken room list = eqb (length room) size && eqb (length list) 64
 
 unfoldable pub frameRoom : List ℤ → List ℤ → List ℤ
 frameRoom room list = cond (taken room list) (framedRoom (framedIn room list) room) room
 
-unfoldable pub frameHanded : List ℤ → List ℤ → List ℤ → List ℤ
-frameHanded room list out = cond (taken room list) (handedOver (rankingNumbers (framedIn room list .outcome)) out) out
+unfoldable pub frameOutcome : List ℤ → List ℤ → Outcome
+frameOutcome room list = cond (taken room list) (framedIn room list .outcome) (refusalOf number.guider 0)

@@ -1,4 +1,5 @@
 // The C interface of the call that says whether another identification fits.
+use handover::NAMES;
 use handover::of_count;
 use handover::of_outcome;
 use handover::put_names;
@@ -30,7 +31,7 @@ fn of_rival(contest: Contest, directions: usize, stars: usize) -> [i64; 64]
     let words = contest.stars;
     let named = put_names(
         of_count(if_rival(rival, 1)),
-        3,
+        NAMES,
         words,
         if_rival(rival, directions),
         stars,

@@ -1,6 +1,7 @@
 // What each call of the stars hands over.
 use attitude::Attitude;
 use catalogue::Checked;
+use handover::NAMES;
 use handover::of_count;
 use handover::of_matrix;
 use handover::of_outcome;
@@ -30,7 +31,7 @@ pub(crate) fn of_search(
 {
     let outcome = identification.outcome;
     let words = identification.stars;
-    let named = put_names(of_count(directions), 3, words, directions, stars);
+    let named = put_names(of_count(directions), NAMES, words, directions, stars);
     of_outcome(outcome, named)
 }
 

@@ -1,7 +1,9 @@
 // The C interface of the stars' calls: the catalogue's check, the ranking, the search, and the attitude.
 mod answers;
 
+use attitude::Attitude;
 use handover::vector_at;
+use refusal::Refusal;
 ghost use mathlib.Core.Path.{_≡_};
 ghost use Rattle.direction.specs.ListLaws.{directionsIn};
 ghost use Rattle.catalogue.specs.Format.{recordsIn};
@@ -12,7 +14,7 @@ ghost use Rattle.handover.specs.Room.{handedOver};
 ghost use Rattle.handover.specs.Numbers.{rankingNumbers};
 ghost use Rattle.exports_stars.specs.Catalogue.{catalogueNumbers};
 ghost use Rattle.exports_stars.specs.Search.{searchNumbers};
-ghost use Rattle.exports_stars.specs.Attitude.{attitudeHanded};
+ghost use Rattle.exports_stars.specs.Attitude.{attitudeNumbers, attitudeIn};
 
 // How many records a catalogue has.
 #[no_mangle]
@@ -58,17 +60,26 @@ pub extern "C" fn mnemathor_search(
     );
 }
 
-// The attitude of four vectors, three numbers each: camera v1 and v2, star v1 and v2. Of another count of numbers nothing is done.
-#[no_mangle]
-pub extern "C" fn mnemathor_attitude(vectors: &[i64], out: &mut [i64])
-    ensures { λ _. ⌜ now (out .exit) ≡ attitudeHanded (now (vectors .entry)) (now (out .entry)) ⌝ }
+// The attitude of four vectors, three numbers each: camera v1 and v2, star v1 and v2. Another count of numbers is no list of four: refusal 8.
+fn attitude_in(vectors: &[i64]) -> Attitude
+    ensures { λ r. ⌜ r ≡ attitudeIn (now (vectors .entry)) ⌝ }
 {
     if vectors.len() != 12 {
-        return;
+        return Attitude::Refused(Refusal {
+            number: refusal::DIRECTIONS,
+            place: 0,
+        });
     }
     let v1 = vector_at(vectors, 0);
     let v2 = vector_at(vectors, 3);
     let w1 = vector_at(vectors, 6);
     let w2 = vector_at(vectors, 9);
-    handover::hand_over(out, answers::of_attitude(attitude::triad(v1, v2, w1, w2)));
+    attitude::triad(v1, v2, w1, w2)
+}
+
+#[no_mangle]
+pub extern "C" fn mnemathor_attitude(vectors: &[i64], out: &mut [i64])
+    ensures { λ _. ⌜ now (out .exit) ≡ handedOver (attitudeNumbers (attitudeIn (now (vectors .entry)))) (now (out .entry)) ⌝ }
+{
+    handover::hand_over(out, answers::of_attitude(attitude_in(vectors)));
 }

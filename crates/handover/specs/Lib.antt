@@ -3,5 +3,7 @@ pub mod Room
 pub mod Numbers
 pub mod Matrix
 pub mod Stars
+pub mod Places
+pub mod PlaceLaws
 pub mod Handed
 pub mod Copied

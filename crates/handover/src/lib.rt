@@ -13,6 +13,23 @@ ghost use Rattle.handover.specs.Room.{handedOver};
 ghost use Rattle.handover.specs.Matrix.{matrixNumbers, withMatrix};
 ghost use Rattle.handover.specs.Stars.{withStar, withStars, nameAt, withNames};
 
+// Where the numbers stand: a refusal's two, and the answer's own, which begin behind them.
+pub const NUMBER: usize = 0;
+
+pub const PLACE: usize = 1;
+
+pub const OWN: usize = 2;
+
+// The stars of a search's directions, behind one number of its own; those of a frame's list, behind its four counts; and behind the list, in a chain, the
+// star of each listed direction and the matrix.
+pub const NAMES: usize = 3;
+
+pub const STARS: usize = 6;
+
+pub const CHAIN_NAMES: usize = 30;
+
+pub const CHAIN_MATRIX: usize = 38;
+
 // The signed number that has the same 64 bits.
 pub fn signed(word: u64) -> i64
     ensures { λ r. ⌜ r ≡ signedOf word ⌝ }
@@ -29,8 +46,8 @@ pub fn of_refusal(refusal: Refusal) -> [i64; 64]
     ensures { λ r. ⌜ r ≡ refusedNumbers refusal ⌝ }
 {
     let mut flat = [0i64; 64];
-    flat[0] = signed(refusal.number as u64);
-    flat[1] = signed(refusal.place as u64);
+    flat[NUMBER] = signed(refusal.number as u64);
+    flat[PLACE] = signed(refusal.place as u64);
     flat
 }
 
@@ -55,7 +72,7 @@ pub fn of_count(n: usize) -> [i64; 64]
     ensures { λ r. ⌜ r ≡ acceptedNumbers (signedOf n ∷ []) ⌝ }
 {
     let mut flat = [0i64; 64];
-    flat[2] = signed(n as u64);
+    flat[OWN] = signed(n as u64);
     flat
 }
 
@@ -89,7 +106,7 @@ pub fn vector_at(numbers: &[i64], i: usize) -> Vec3
 pub fn of_vector(v: Vec3) -> [i64; 64]
     ensures { λ r. ⌜ r ≡ acceptedNumbers (vectorNumbers v) ⌝ }
 {
-    put_vector([0i64; 64], 2, v)
+    put_vector([0i64; 64], OWN, v)
 }
 
 // A matrix's numbers from a place on, row by row.
@@ -105,7 +122,7 @@ pub fn put_matrix(flat: [i64; 64], at: usize, matrix: Matrix) -> [i64; 64]
 pub fn of_matrix(matrix: Matrix) -> [i64; 64]
     ensures { λ r. ⌜ r ≡ acceptedNumbers (matrixNumbers matrix) ⌝ }
 {
-    put_matrix([0i64; 64], 2, matrix)
+    put_matrix([0i64; 64], OWN, matrix)
 }
 
 // A star's position and brightness from a place on.
@@ -120,7 +137,7 @@ pub fn put_star(flat: [i64; 64], at: usize, star: Centroid) -> [i64; 64]
     put
 }
 
-// A frame's eight stars from place 6 on.
+// A frame's eight stars, at their place.
 pub fn put_stars(flat: [i64; 64], stars: [Centroid; 8]) -> [i64; 64]
     ensures { λ r. ⌜ r ≡ withStars stars 8 flat ⌝ }
 {
@@ -128,7 +145,7 @@ pub fn put_stars(flat: [i64; 64], stars: [Centroid; 8]) -> [i64; 64]
     let mut k: usize = 0;
     while k < 8 {
         let star = stars[k];
-        let next = put_star(put, 6 + 3 * k, star);
+        let next = put_star(put, STARS + 3 * k, star);
         put = next;
         k += 1;
     }

@@ -1,6 +1,6 @@
--- What the chain by an index is for: with the right index it is the plain chain. Assumes nothing.
+-- What the chain by an index is for: with the right index it is the plain chain, and whichever it is handed it keeps demand 3. Assumes nothing.
 use mathlib.Core.Bool.{Bool, true, false, not}
-use mathlib.Core.Path.{_≡_, refl, sym, ap, _∙_}
+use mathlib.Core.Path.{_≡_, refl, sym, ap, subst, _∙_}
 use mathlib.Core.List.{List, [], _∷_, _++_}
 use Prim.Native.Nat.{ℕ}
 use lib.IntN.{ℤ}
@@ -11,10 +11,11 @@ use Rattle.refusal.specs.declared.Outcome.{Outcome}
 use Rattle.refusal.specs.declared.Outcome.the-variants.{Accepted, Refused}
 use Rattle.refusal.specs.Numbers as number
 use Rattle.refusal.specs.Table.{refusalOf, lowest, answered, otherwise}
-use Rattle.refusal.specs.Laws.{lowest-here, lowest-append, otherwise-accepted}
+use Rattle.refusal.specs.Laws.{lowest-here, lowest-append, otherwise-accepted, Every, every-append, lowest-every}
 use Rattle.frame_input.specs.Input.{frameRows}
 use Rattle.frame.specs.Calls.{listingOf}
 use Rattle.catalogue.specs.Check as catalogue
+use Rattle.catalogue.specs.Check.{refusalsOf as catalogueRows}
 use Rattle.catalogue.specs.Stars.{starsOf}
 use Rattle.index.specs.Index.{indexOf}
 use Rattle.index.specs.Check.{isIndex}
@@ -22,6 +23,10 @@ use Rattle.index.specs.CheckLaws.{is-index, index-true}
 use Rattle.tracker.specs.Chain as plain
 use Rattle.tracker.specs.Chain.{refusedWith, settingsRows, demandRows, listed}
 use Rattle.tracker.specs.AdmitLaws as plain-laws
+use Rattle.tracker.specs.declared.Tracked.{Tracked}
+use Rattle.tracker.specs.Ready.{Names, Tracks}
+use Rattle.tracker.specs.ReadyLaws.{Early, isEarly, early}
+use Rattle.tracker.specs.NamesLaws as names
 use Rattle.index_tracker.specs.Chain.{Call, indexRows, starsRows, refusalsOf, trackedOf, roomAfter}
 
 -- ---- 17
@@ -134,3 +139,41 @@ module _ (c : Call) where
     pub refused-room : roomAfter c ≡ c .chain .room
     unfolding roomAfter
     refused-room = ap (answered (λ (r : Refusal). c .chain .room) (plain.roomAfter (c .chain))) h
+
+-- ---- demand 3, whichever index is lent
+
+-- what is given before the ranking is none of 8, 11, 13 and 14
+refusals-early : (c : Call) → Every Early (refusalsOf c)
+unfolding refusalsOf starsRows settingsRows demandRows catalogueRows Every isEarly
+refusals-early c =
+    let s = c .chain .settings in
+    let f = frameRows (c .chain .samples) (s .width) (s .height) (s .threshold) in
+    let k = catalogue.refusalsOf (c .chain .catalogue) in
+    let i = indexRows (starsOf (c .chain .catalogue)) (c .index) (c .floor) in
+    let d = demandRows s (length (c .chain .room)) (listed (c .chain) .report .count) in
+    every-append Early f (settingsRows s ++ ((k ++ i) ++ d)) (early 1 refl, (early 2 refl, (early 3 refl, (early 4 refl, tt))))
+    (every-append Early (settingsRows s) ((k ++ i) ++ d) (early 19 refl, (early 5 refl, tt))
+    (every-append Early (k ++ i) d (every-append Early k i (early 6 refl, (early 7 refl, tt)) (early 17 refl, tt)) (early 9 refl, (early 10 refl, (early 12 refl, tt)))))
+
+module _ (c : Call) where
+  -- the plain chain's answer, or a refusal before the ranking
+  by-index : (P : Tracked → Type 0) → (lowest (refusalsOf c) ≡ Accepted → P (plain.trackedOf (c .chain))) → ((q : Refusal) → Early (q .number) → P (refusedWith q)) → P (trackedOf c)
+  by-index P accepted refused = go (lowest (refusalsOf c)) refl
+    where
+      go : (o : Outcome) → lowest (refusalsOf c) ≡ o → P (trackedOf c)
+      go Accepted e = subst P (sym (right-tracked c (accepted-right c e))) (accepted e)
+      go (Refused q) e = subst P (sym (refused-tracked c q e)) (refused q (lowest-every Early (refusalsOf c) (refusals-early c) q e))
+
+  pub tracked-names : Tracks (c .chain) (trackedOf c)
+  tracked-names =
+      by-index (Tracks (c .chain)) (λ _. names.tracked-names (c .chain))
+      (λ q a. names.refused-names (listed (c .chain) .report) (c .chain .catalogue) (c .chain .settings) q (a .no-13))
+
+  pub tracked-numbered : (q : Refusal) → trackedOf c .outcome ≡ Refused q → names.Numbered q
+  tracked-numbered q =
+      by-index (λ (t : Tracked). t .outcome ≡ Refused q → names.Numbered q) (λ _. names.tracked-numbered (c .chain) q)
+      (λ r a e. let d : r ≡ q = cc in subst names.Numbered d (names.early-numbered r a))
+
+  pub tracked-whole : trackedOf c .outcome ≡ Accepted → names.Whole (c .chain) (trackedOf c)
+  tracked-whole =
+      by-index (λ (t : Tracked). t .outcome ≡ Accepted → names.Whole (c .chain) t) (λ _. names.tracked-whole (c .chain)) (λ q a e. contradiction (cc))

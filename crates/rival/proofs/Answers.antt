@@ -1,8 +1,9 @@
--- Answers that meet the promise, and that the promise pins the answer: whatever is `Contested` is the computed `contestOf`. Assumes nothing.
+-- Answers that meet the promise, and that the promise is the computed answer: whatever is `Contested` is `contestOf`, and `contestOf` is `Contested`.
+-- Assumes nothing.
 use mathlib.Core.Path.{_≡_, refl, sym, _∙_, ap, subst}
 use mathlib.Core.Bool.{Bool, true, false, cond}
 use mathlib.Core.List.{List}
-use Prim.Native.Nat.{ℕ}
+use Prim.Native.Nat.{ℕ, _≤_}
 use lib.IntN.{ℤ}
 use lib.ListN.{replicate}
 use Rattle.counting.specs.Contradiction.{contradiction}
@@ -21,14 +22,14 @@ use Rattle.assignment.proofs.Rival.{sought-local}
 use Rattle.assignment.proofs.Run as run
 use Rattle.fit.specs.declared.Setup.{Setup}
 use Rattle.fit.specs.Fit.{rankingOf, setupOf, problem}
-use Rattle.fit.proofs.Rules.{problem-local, first-sought}
+use Rattle.fit.proofs.Rules.{problem-local, first-sought, first-rival}
 use Rattle.backtrack.specs.declared.Answer.{Answer}
 use Rattle.backtrack.proofs.Words.{zeros-at}
 use Rattle.search.specs.declared.Identification.{Identification}
 use Rattle.search.specs.Refusals.{refusalsOf}
 use Rattle.search.specs.Identified as found
 use Rattle.search.specs.Identified.{setupFor, padTo, identificationOf}
-use Rattle.search.proofs.Padded.{padded}
+use Rattle.search.proofs.Padded.{pad-length, padded, padded-first, padded-rest}
 use Rattle.search.proofs.Rejected.{accepted-ranked}
 use Rattle.search.proofs.Answers as answers
 use Rattle.rival.specs.declared.Contest.{Contest}
@@ -120,3 +121,42 @@ module _ (directions : List ℤ) (bytes : List ℕ) (needed tolerance : ℕ) (ws
           rw e
           (judged-found (setupFor directions bytes needed tolerance) (ours .stars) ws directions (starsOf bytes) (accepted-ranked directions bytes needed tolerance ws (none-refuses e)) r (C .judged e))
       by (Refused q) e = rw e (C .refused q e)
+
+-- ---- the other way
+
+settled : (a : computed.Answer) → answerOf (answers.answerIn a) ≡ foundOf a
+settled nothing = refl
+settled (fit xs) = refl
+
+module _ (s : Setup) (ours ws : List ℕ) (directions stars : List ℤ) where
+  abbrev rivals : Problem
+  rivals = sought true ours (problem s ws directions stars)
+
+  rivals-local : Local rivals
+  rivals-local = sought-local (problem s ws directions stars) ours true (problem-local s ws directions stars)
+
+  computed-first : Ranked (rankingOf (s .dirs) (s .stars) ws) → s .dirs ≤ 8 → FirstRival s ours ws directions stars (answers.answerIn (firstFit rivals))
+  computed-first R few =
+      record {
+        first = first-rival s ws directions stars (isFit (firstFit rivals)) (padTo 8 (words (firstFit rivals))) ours (padded-first rivals R rivals-local few);
+        rest = padded-rest rivals R rivals-local few;
+        size = pad-length 8 (words (firstFit rivals));
+      }
+
+-- the computed answer is the first rival, or that there is none, or the search's refusal, on every call
+pub computed-contested : (directions : List ℤ) (bytes : List ℕ) (needed tolerance : ℕ) (ws : List ℕ) → Contested directions bytes needed tolerance ws (contestOf directions bytes needed tolerance ws)
+unfolding contestOf
+computed-contested directions bytes needed tolerance ws = by (identificationOf directions bytes needed tolerance ws .outcome) refl
+  where
+    by : (o : Outcome) → identificationOf directions bytes needed tolerance ws .outcome ≡ o → Contested directions bytes needed tolerance ws (contestOf directions bytes needed tolerance ws)
+    by (Refused q) e = rw e (refused-contested directions bytes needed tolerance ws q e)
+    by Accepted e =
+        let own = identificationOf directions bytes needed tolerance ws .stars in
+        let s = setupFor directions bytes needed tolerance in
+        let a = firstFit (rivals s own ws directions (starsOf bytes)) in
+        let n : lowest (refusalsOf directions bytes needed tolerance ws) ≡ Accepted = none-refuses directions bytes needed tolerance ws e in
+        rw e
+        (subst (Contested directions bytes needed tolerance ws) (settled a)
+        (judged-contested directions bytes needed tolerance ws e (answers.answerIn a)
+        (subst (λ (z : Setup). FirstRival z own ws directions (starsOf bytes) (answers.answerIn a)) (sym (answers.same-setup directions bytes needed tolerance ws n))
+        (computed-first s own ws directions (starsOf bytes) (accepted-ranked directions bytes needed tolerance ws n) (answers.handed directions bytes needed tolerance ws n .lists .few)))))

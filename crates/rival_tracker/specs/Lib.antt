@@ -1,2 +1,3 @@
--- The definitions that the contracts cite.
+-- The definitions that the contracts cite, and their laws.
 pub mod Chain
+pub mod Laws

@@ -1,10 +1,10 @@
--- Answers that meet the search's promise, and that the promise pins the answer: whatever is `Identified` is the computed `identificationOf`.
--- Assumes nothing.
+-- Answers that meet the search's promise, and that the promise is the computed answer: whatever is `Identified` is `identificationOf`, and
+-- `identificationOf` is `Identified`. Assumes nothing.
 use mathlib.Core.Path.{_≡_, refl, sym, _∙_, ap, subst}
 use mathlib.Core.Bool.{Bool, true, false, cond}
 use mathlib.Core.List.{List}
 use mathlib.Core.Logic.{inl, inr, ⊎-elim}
-use Prim.Native.Nat.{ℕ}
+use Prim.Native.Nat.{ℕ, _≤_}
 use native.Mathlib.Omega.{arith}
 use lib.IntN.{ℤ}
 use lib.ListN.{replicate}
@@ -33,9 +33,9 @@ use Rattle.backtrack.specs.Input.{Input}
 use Rattle.search.specs.First.{FirstFit}
 use Rattle.search.specs.Refusals.{refusalsOf}
 use Rattle.search.specs.Identified.{refusedWith, noFit, accepted, setupFor, Searched, answerOf, Identified, padTo, foundOf, identificationOf}
-use Rattle.fit.proofs.Rules.{problem-local, first-passes}
+use Rattle.fit.proofs.Rules.{problem-local, first-passes, first-fits}
 use Rattle.backtrack.proofs.Words.{zeros-at}
-use Rattle.search.proofs.Padded.{padded}
+use Rattle.search.proofs.Padded.{pad-length, padded, padded-first, padded-rest}
 use Rattle.search.proofs.Once.{good-ranked}
 use Rattle.search.proofs.Rejected.{Asked, all-accepted, accepted-ranked}
 
@@ -135,3 +135,37 @@ identified directions bytes needed tolerance ws r I = by (lowest (refusalsOf dir
     by : (o : Outcome) → lowest (refusalsOf directions bytes needed tolerance ws) ≡ o → r ≡ answered refusedWith (foundOf (firstFit (problem (setupFor directions bytes needed tolerance) ws directions (starsOf bytes)))) (lowest (refusalsOf directions bytes needed tolerance ws))
     by Accepted e = rw e (searched-found (setupFor directions bytes needed tolerance) ws directions (starsOf bytes) (accepted-ranked directions bytes needed tolerance ws e) r (I .searched e))
     by (Refused q) e = rw e (I .refused q e)
+
+-- ---- the other way
+
+-- the computed answer, in the form of the search's own
+abbrev pub answerIn : computed.Answer → Answer
+answerIn a = record { found = isFit a; stars = padTo 8 (words a) }
+
+settled : (a : computed.Answer) → answerOf (answerIn a) ≡ foundOf a
+settled nothing = refl
+settled (fit xs) = refl
+
+computed-first : (s : Setup) (ws : List ℕ) (directions stars : List ℤ) → Ranked (rankingOf (s .dirs) (s .stars) ws) → s .dirs ≤ 8 → FirstFit s ws directions stars (answerIn (firstFit (problem s ws directions stars)))
+computed-first s ws directions stars R few =
+    let p : Problem = problem s ws directions stars in
+    record {
+      first = first-fits s ws directions stars (isFit (firstFit p)) (padTo 8 (words (firstFit p))) (padded-first p R (problem-local s ws directions stars) few);
+      rest = padded-rest p R (problem-local s ws directions stars) few;
+      size = pad-length 8 (words (firstFit p));
+    }
+
+-- demand 3 of the computed answer, on every call
+pub computed-identified : (directions : List ℤ) (bytes : List ℕ) (needed tolerance : ℕ) (ws : List ℕ) → Identified directions bytes needed tolerance ws (identificationOf directions bytes needed tolerance ws)
+unfolding identificationOf
+computed-identified directions bytes needed tolerance ws = by (lowest (refusalsOf directions bytes needed tolerance ws)) refl
+  where
+    by : (o : Outcome) → lowest (refusalsOf directions bytes needed tolerance ws) ≡ o → Identified directions bytes needed tolerance ws (identificationOf directions bytes needed tolerance ws)
+    by (Refused q) e = rw e (refused-identified directions bytes needed tolerance ws q e)
+    by Accepted e =
+        let a = firstFit (problem (setupFor directions bytes needed tolerance) ws directions (starsOf bytes)) in
+        rw e
+        (subst (Identified directions bytes needed tolerance ws) (settled a)
+        (searched-identified directions bytes needed tolerance ws e (answerIn a)
+        (subst (λ (s : Setup). FirstFit s ws directions (starsOf bytes) (answerIn a)) (sym (same-setup directions bytes needed tolerance ws e))
+        (computed-first (setupFor directions bytes needed tolerance) ws directions (starsOf bytes) (accepted-ranked directions bytes needed tolerance ws e) (handed directions bytes needed tolerance ws e .lists .few)))))

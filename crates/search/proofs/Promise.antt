@@ -3,7 +3,7 @@
 use mathlib.Core.Path.{_≡_, sym, _∙_, ap}
 use mathlib.Core.Bool.{true}
 use mathlib.Core.List.{List}
-use mathlib.Core.Logic.{_⊎_, ⊎-elim}
+use mathlib.Core.Logic.{_⊎_, inl, inr, ⊎-elim}
 use Prim.Native.Nat.{ℕ, _≤_, _<_}
 use native.Mathlib.Omega.{arith}
 use borrow.Author.Tests.{le-leb}
@@ -18,14 +18,17 @@ use Rattle.catalogue.specs.Format.{recordsIn}
 use Rattle.catalogue.specs.Stars.{starsOf}
 use Rattle.catalogue.specs.CheckLaws.{valid-accepted}
 use Rattle.assignment.specs.Order.{Same, Before}
+use Rattle.assignment.proofs.Search.{assigned-below}
 use Rattle.assignment.proofs.Tests.{le-or-lt}
 use Rattle.search.specs.declared.Judgement.the-variants.{Good}
 use Rattle.search.specs.declared.Identification.{Identification}
 use Rattle.fit.specs.Fit.{rankingOf, FitsHere}
 use Rattle.search.specs.Once.{lentOf}
 use Rattle.search.specs.Refusals.{demandOk, rowsBeside, refusalsOf}
-use Rattle.search.specs.Identified.{refusedWith, noFit, accepted, setupFor, Searched, Identified}
+use Rattle.search.specs.Identified.{refusedWith, noFit, accepted, setupFor, Searched, Identified, identificationOf}
 use Rattle.search.specs.Call.{Call}
+use Rattle.search.specs.Answered.{FitsCall, Answered}
+use Rattle.search.proofs.Answers.{computed-identified}
 use Rattle.search.proofs.Once.{ranked-good}
 use Rattle.search.proofs.Rejected.{too-few, none-applies, catalogue-valid}
 
@@ -93,3 +96,43 @@ module _ (directions : List ℤ) (bytes : List ℕ) (needed tolerance : ℕ) (wo
     -- and 12 exactly where there are fewer directions than needed
     pub refused-few : r .outcome ≡ refusalOf number.few 0 → directionsIn directions < needed
     refused-few e = ⊎-elim (λ (h : needed ≤ directionsIn directions). absurd (not-few h e)) (λ (h : directionsIn directions < needed). h) (le-or-lt needed (directionsIn directions))
+
+    -- an answer of another number than 12 is given where there are enough
+    enough-for : {o : Outcome} → r .outcome ≡ o → (numberIn o ≡ number.few → ⊥) → needed ≤ directionsIn directions
+    enough-for {o} e other =
+        ⊎-elim (λ (h : needed ≤ directionsIn directions). h)
+        (λ (h : directionsIn directions < needed). absurd (other (ap numberIn (sym e) ∙ ap (λ (i : Identification). numberIn (i .outcome)) (few-refused h))))
+        (le-or-lt needed (directionsIn directions))
+
+    where-accepted : r .outcome ≡ Accepted → needed ≤ directionsIn directions
+    where-accepted e = enough-for e (λ h. omega arith)
+
+    where-none : r .outcome ≡ refusalOf number.noFit 0 → needed ≤ directionsIn directions
+    where-none e = enough-for e (λ h. omega arith)
+
+    -- an assignment that fits has a star for as many directions as are needed
+    where-fits : (ys : List ℕ) → Fit ys → needed ≤ directionsIn directions
+    where-fits ys f = omega (arith, f .enough, assigned-below (recordsIn bytes) ys (directionsIn directions))
+
+    -- all of this at once
+    pub identified-answered : Answered directions bytes needed tolerance words r
+    identified-answered =
+        record {
+          one-of-three = ⊎-elim
+              (λ (h : needed ≤ directionsIn directions). ⊎-elim inl (λ b. inr (inr b)) (searched h .settled))
+              (λ (h : directionsIn directions < needed). inr (inl (few-refused h)))
+              (le-or-lt needed (directionsIn directions));
+          fits = λ e. accepted-fits (where-accepted e) e;
+          first = λ e. accepted-first (where-accepted e) e;
+          accepts = λ ys f. fits-accepted (where-fits ys f) ys f;
+          rest = λ e. searched (where-accepted e) .rest;
+          size = λ e. searched (where-accepted e) .size;
+          few = few-refused;
+          only-few = refused-few;
+          none = none-refused;
+          only-none = λ e. (where-none e, refused-none (where-none e) e);
+        }
+
+  -- the answer to a valid call is an assignment, 12 or 13, and nothing else
+  pub computed-answered : Answered directions bytes needed tolerance words (identificationOf directions bytes needed tolerance words)
+  computed-answered = identified-answered _ (computed-identified directions bytes needed tolerance words)

@@ -4,4 +4,5 @@ pub mod First
 pub mod Refusals
 pub mod Identified
 pub mod Call
+pub mod Answered
 pub mod Alike

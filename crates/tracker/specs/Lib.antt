@@ -8,6 +8,7 @@ pub mod ChainLaws
 pub mod SettledLaws
 pub mod ReadyLaws
 pub mod NeverLaws
+pub mod NamesLaws
 pub mod RoomLaws
 pub mod BoundLaws
 pub mod Alike

@@ -59,8 +59,8 @@ module _ (report : Report) (bytes : List ℕ) (s : Settings) (room : List ℕ) (
   abbrev turned : Attitude
   turned = orientationOf sights (starsOf bytes) (ourIdentification report bytes s .stars)
 
-  -- behind the list only 13 and 14 are given
-  located-late : (q : Refusal) → locatedOf report bytes s .outcome ≡ Refused q → (q .number ≡ number.noFit) ⊎ (q .number ≡ number.close)
+  -- behind the list only 13, which names no place, and 14 are given
+  pub located-late : (q : Refusal) → locatedOf report bytes s .outcome ≡ Refused q → (Refused sought.noFit ≡ Refused q) ⊎ (q .number ≡ number.close)
   unfolding locatedOf settledOf numberIn orientationOf
   located-late q e =
       ⊎-elim
@@ -71,7 +71,7 @@ module _ (report : Report) (bytes : List ℕ) (s : Settings) (room : List ℕ) (
       (λ t. let z = sym (ap (λ (a : Attitude). oriented report (ourIdentification report bytes s .stars) a .outcome) t) ∙ e′ in contradiction (cc))
       (in-range-answer _ _ _ _ (in-range _ _ _ _))))
       (λ (k : ourIdentification report bytes s .outcome ≡ Refused sought.noFit).
-      inl (sym (ap numberIn (sym (ap (λ (o : Outcome). answered refusedWith (oriented report (ourIdentification report bytes s .stars) turned) o .outcome) k) ∙ e))))
+      inl (sym (ap (λ (o : Outcome). answered refusedWith (oriented report (ourIdentification report bytes s .stars) turned) o .outcome) k) ∙ e))
       search-known
 
 pub never : (c : Call) (q : Refusal) → trackedOf c .outcome ≡ Refused q → (q .number ≡ number.directions → ⊥) × (q .number ≡ number.ranking → ⊥)
@@ -85,4 +85,4 @@ never c q e = by (lowest (refusalsOf c)) refl
         ((λ m. a .no-8 (n ∙ m)), (λ m. a .no-11 (n ∙ m)))
     by Accepted k =
         let l = located-late (listed c .report) (c .catalogue) (c .settings) (c .room) (ready c k) q (sym (ap (λ (o : Outcome). answered refusedWith (locatedOf (listed c .report) (c .catalogue) (c .settings)) o .outcome) k) ∙ e) in
-        ((λ m. ⊎-elim (λ a. omega arith) (λ a. omega arith) l), (λ m. ⊎-elim (λ a. omega arith) (λ a. omega arith) l))
+        ((λ m. ⊎-elim (λ a. omega (arith, ap numberIn a)) (λ a. omega arith) l), (λ m. ⊎-elim (λ a. omega (arith, ap numberIn a)) (λ a. omega arith) l))

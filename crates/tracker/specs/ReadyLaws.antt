@@ -128,28 +128,34 @@ ready c e =
       long = d .1;
     }
 
--- the numbers that are given before anything is written: not 8 or 11, which cannot arise, and not 13 or 14, which come behind the ranking
+-- the numbers that are given before anything is written: of the table, not 8 or 11, which cannot arise, and not 13 or 14, which come behind the ranking
 pub record Early (n : ℕ) : Type 0 where
+  pub some : 1 ≤ n
+  pub last : n ≤ 23
   pub no-8 : n ≡ 8 → ⊥
   pub no-11 : n ≡ 11 → ⊥
   pub no-13 : n ≡ 13 → ⊥
   pub no-14 : n ≡ 14 → ⊥
 
-other : ℕ → Bool
-other n = eqb n 8 || eqb n 11 || eqb n 13 || eqb n 14
+unfoldable pub isEarly : ℕ → Bool
+isEarly n = leb 1 n && leb n 23 && not (eqb n 8 || eqb n 11 || eqb n 13 || eqb n 14)
 
-early : (n : ℕ) → other n ≡ false → Early n
-unfolding other
+pub early : (n : ℕ) → isEarly n ≡ true → Early n
+unfolding isEarly
 early n e =
+    let a = and-eq-true-iff (leb 1 n && leb n 23) (not (eqb n 8 || eqb n 11 || eqb n 13 || eqb n 14)) .0 e .0 in
+    let b = and-eq-true-iff (leb 1 n) (leb n 23) .0 a in
     record {
-      no-8 = λ k. contradiction (sym e ∙ ap other k);
-      no-11 = λ k. contradiction (sym e ∙ ap other k);
-      no-13 = λ k. contradiction (sym e ∙ ap other k);
-      no-14 = λ k. contradiction (sym e ∙ ap other k);
+      some = leb-true 1 n (b .0);
+      last = leb-true n 23 (b .1);
+      no-8 = λ k. contradiction (sym (ap isEarly k) ∙ e);
+      no-11 = λ k. contradiction (sym (ap isEarly k) ∙ e);
+      no-13 = λ k. contradiction (sym (ap isEarly k) ∙ e);
+      no-14 = λ k. contradiction (sym (ap isEarly k) ∙ e);
     }
 
 refusals-early : (c : Call) → Every Early (refusalsOf c)
-unfolding refusalsOf settingsRows demandRows catalogueRows Every other
+unfolding refusalsOf settingsRows demandRows catalogueRows Every isEarly
 refusals-early c =
     let s = c .settings in
     let f = frameRows (c .samples) (s .width) (s .height) (s .threshold) in

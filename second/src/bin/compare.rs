@@ -71,7 +71,7 @@ fn main() -> ExitCode {
                 let call = any_call(&random, entry);
                 run.compare(&call);
                 if random.chance(2) {
-                    run.compare_nothing_handed_over(&random, call);
+                    run.compare_other_lengths(&random, call);
                 }
             }
         }
@@ -178,16 +178,16 @@ impl Run {
         println!("{} calls made {ROUNDS} times in each of {THREADS} threads at once", calls.len());
     }
 
-    /// Room for fewer than 64 numbers: none is handed over, but the rooms take what the call writes there all the
-    /// same. Or a buffer of another length than the call takes: nothing is done.
-    fn compare_nothing_handed_over(&mut self, random: &Random, mut call: Call) {
-        let (room, expected) = match random.chance(50) && lend_other_length(random, &mut call) {
-            true => (64, call.lend()),
-            false => match call.run_wide(&mut Effort::up_to(MOST_STARS_TRIED)) {
-                Ok(outcome) => (random.pick(&[0, 1, 2, 47, 63]), outcome.lent),
-                Err(_) => return,
-            },
+    /// A buffer of another length than the call takes: it is refused. Or room for fewer than 64 numbers: none is
+    /// handed over, but the rooms take what the call writes there all the same.
+    fn compare_other_lengths(&mut self, random: &Random, mut call: Call) {
+        if random.chance(50) && lend_other_length(random, &mut call) {
+            return self.compare(&call);
+        }
+        let Ok(Outcome { lent: expected, .. }) = call.run_wide(&mut Effort::up_to(MOST_STARS_TRIED)) else {
+            return;
         };
+        let room = random.pick(&[0, 1, 2, 47, 63]);
         let mut lent = call.lend();
         let mut out = vec![UNTOUCHED; room];
         linked::run(&call, &mut lent, &mut out);

@@ -1,31 +1,12 @@
 -- `exports_stars::mnemathor_attitude` meets its contract: each call's promise in turn. Assumes nothing.
-use borrow.Author.Tests.{eq-eqb, ne-eqb}
-use mathlib.Core.Path.{refl, sym, ap, _∙_}
-use Rattle.attitude.specs.Attitude.{attitudeOf}
-use Rattle.exports_stars.specs.Attitude.{attitudeNumbers, attitudeHanded}
+use Rattle.exports_stars.specs.Attitude.{attitudeNumbers}
 use Rattle.handover.specs.Handed.{handed}
 use borrow.Author.Needs.{needs}
 use Rattle.exports_stars.proofs.mnemathor_attitude.Statement.{statement}
 use Rattle.exports_stars.proofs.mnemathor_attitude.Tie as tie
 
-returns : tie.Need-returns
-unfolding attitudeHanded
-returns c = rw (ne-eqb _ _ (c .if1 .taken)) refl
-
-vector-at-requires : tie.Need-vector-at-requires
-vector-at-requires c κs = search needs
-
-vector-at-requires-2 : tie.Need-vector-at-requires-2
-vector-at-requires-2 c κs = search needs
-
-vector-at-requires-3 : tie.Need-vector-at-requires-3
-vector-at-requires-3 c κs = search needs
-
-vector-at-requires-4 : tie.Need-vector-at-requires-4
-vector-at-requires-4 c κs = search needs
-
-triad-requires : tie.Need-triad-requires
-triad-requires c κs = search needs
+attitude-in-requires : tie.Need-attitude-in-requires
+attitude-in-requires c κs = search needs
 
 of-attitude-requires : tie.Need-of-attitude-requires
 of-attitude-requires c κs = search needs
@@ -36,27 +17,10 @@ hand-over-requires c κs = search needs
 same-length : tie.Need-same-length
 same-length c = search needs
 
-returns-2 : tie.Need-returns-2
-unfolding attitudeHanded
-returns-2 c =
-    let t = c .before .before .before in
-    let v4 = t .before .before in
-    let v3 = v4 .before in
-    let v2 = v3 .before in
-    let v1 = v2 .before in
-    rw (eq-eqb _ _ (v1 .before .if1 .left)) (handed attitudeNumbers _ (c .before .hand-over .ensures) (c .before .before .of-attitude .ensures) (t .triad .ensures .0 ∙ (λ i. attitudeOf (v1 .vector-at .ensures i) (v2 .vector-at2 .ensures i) (v3 .vector-at3 .ensures i) (v4 .vector-at4 .ensures i))))
+returns : tie.Need-returns
+returns c = handed attitudeNumbers _ (c .before .hand-over .ensures) (c .before .before .of-attitude .ensures) (c .before .before .before .attitude-in .ensures)
 
 pub mnemathor-attitude-spec : {M : Type 1} → statement M
 mnemathor-attitude-spec =
     tie.close
-    (tie.spec
-    returns
-    vector-at-requires
-    vector-at-requires-2
-    vector-at-requires-3
-    vector-at-requires-4
-    triad-requires
-    of-attitude-requires
-    hand-over-requires
-    same-length
-    returns-2)
+    (tie.spec attitude-in-requires of-attitude-requires hand-over-requires same-length returns)
