@@ -77,7 +77,10 @@ enum mn_place {
     MN_AT_LONE = 5,
     MN_AT_STARS = 6,
     MN_AT_CHAIN_NAMES = 30, /* of a chain, behind its list: the star of each of 8 directions, and the matrix by rows */
-    MN_AT_CHAIN_MATRIX = 38
+    MN_AT_CHAIN_MATRIX = 38,
+    MN_AT_HALF_WIDTH = 0,   /* of a guider's own MN_GUIDER_NUMBERS: half-width, count, and four numbers of each guide */
+    MN_AT_GUIDE_COUNT = 1,
+    MN_AT_GUIDES = 2
 };
 
 /* Numbers of a refusal. docs/FLIGHT.md says what each means in flight. */
@@ -90,7 +93,7 @@ enum mn_refused {
     MN_REFUSED_SETTINGS = 5,      /* cx or cy is out of range, or a position handed in is */
     MN_REFUSED_CATALOGUE = 6,     /* the catalogue's length is no multiple of a record's, or not that of 1 to 512 records */
     MN_REFUSED_RECORD = 7,        /* a record breaks its rule; place: the first such record */
-    MN_REFUSED_DIRECTIONS = 8,    /* more than 8 directions, or a component beyond 10^9; in the archive's calls also other than 12 numbers of an attitude or 3 of a target */
+    MN_REFUSED_DIRECTIONS = 8,    /* more than 8 directions, or a component beyond 10^9; in the archive's calls also a wrong count of numbers */
     MN_REFUSED_DEMAND = 9,        /* the needed count or the tolerance is out of range */
     MN_REFUSED_ROOM = 10,         /* the ranking room is too short */
     MN_REFUSED_RANKING = 11,      /* the ranking read has a wrong length (place 0) or a wrong entry; place: the first such entry */
@@ -259,8 +262,8 @@ struct mn_framed {
     struct mn_matrix matrix;
 };
 
-/* The archive's functions. Each writes its answer into `out`, refused or not: number and place of a refusal first, and zeros where there is no answer. Lists and
- * rooms of a wrong length are refused like any other input. Only an `out` with room for fewer than MN_NUMBERS stays as it was, since nothing can be told there. */
+/* The archive's functions. Each writes its answer into `out`, refused or not: number and place of a refusal first, and zeros where there is no answer. Lists
+ * and rooms of a wrong length are refused like any other input. Only an `out` with room for fewer than MN_NUMBERS stays as it was: nothing can be told there. */
 
 void mnemathor_verdict(const uint16_t *samples, size_t samples_len, size_t width, size_t height, size_t threshold, size_t row, size_t column, int64_t *out,
                        size_t out_len);
@@ -352,26 +355,26 @@ static inline void mn_take_tracked(const int64_t *out, struct mn_tracked *tracke
 static inline void mn_take_guider(const int64_t *numbers, struct mn_guider *guider)
 {
     size_t k;
-    guider->half_width = numbers[0];
-    guider->count = numbers[1];
+    guider->half_width = numbers[MN_AT_HALF_WIDTH];
+    guider->count = numbers[MN_AT_GUIDE_COUNT];
     for (k = 0; k < MN_GUIDES; k++) {
-        guider->guides[k].identity = numbers[2 + 4 * k];
-        guider->guides[k].x = numbers[3 + 4 * k];
-        guider->guides[k].y = numbers[4 + 4 * k];
-        guider->guides[k].misses = numbers[5 + 4 * k];
+        guider->guides[k].identity = numbers[MN_AT_GUIDES + 4 * k];
+        guider->guides[k].x = numbers[MN_AT_GUIDES + 4 * k + 1];
+        guider->guides[k].y = numbers[MN_AT_GUIDES + 4 * k + 2];
+        guider->guides[k].misses = numbers[MN_AT_GUIDES + 4 * k + 3];
     }
 }
 
 static inline void mn_give_guider(const struct mn_guider *guider, int64_t *numbers)
 {
     size_t k;
-    numbers[0] = guider->half_width;
-    numbers[1] = guider->count;
+    numbers[MN_AT_HALF_WIDTH] = guider->half_width;
+    numbers[MN_AT_GUIDE_COUNT] = guider->count;
     for (k = 0; k < MN_GUIDES; k++) {
-        numbers[2 + 4 * k] = guider->guides[k].identity;
-        numbers[3 + 4 * k] = guider->guides[k].x;
-        numbers[4 + 4 * k] = guider->guides[k].y;
-        numbers[5 + 4 * k] = guider->guides[k].misses;
+        numbers[MN_AT_GUIDES + 4 * k] = guider->guides[k].identity;
+        numbers[MN_AT_GUIDES + 4 * k + 1] = guider->guides[k].x;
+        numbers[MN_AT_GUIDES + 4 * k + 2] = guider->guides[k].y;
+        numbers[MN_AT_GUIDES + 4 * k + 3] = guider->guides[k].misses;
     }
 }
 

@@ -2,3 +2,5 @@
 pub mod Rooms
 pub mod RoomLaws
 pub mod Guider
+pub mod ReadLaws
+pub mod ListLaws
