@@ -227,7 +227,7 @@ def _tell_refused(refusal, settings, samples, catalogue, as_json):
     from . import diagnosis
 
     if refusal.number not in diagnosis.OF_THE_FRAME:
-        return []
+        return [configuration.about(refusal.number, settings) or refusal.about or ""]
     measured = diagnosis.measure(settings, samples, catalogue)
     hints = diagnosis.what_would_fit(settings, samples, catalogue) if refusal.number == diagnosis.NO_FIT else {}
     if as_json:

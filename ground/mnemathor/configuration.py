@@ -105,13 +105,13 @@ def check(settings):
         library.list_stars(np.zeros(0, np.uint16), settings)
     except Refused as refusal:
         if refusal.number != 2:
-            raise
+            raise refusal.with_note(about(refusal.number, settings)) from refusal
     dark = np.zeros((settings.height, settings.width), np.uint16)
     try:
         library.chain(dark, settings, library.one_star())
     except Refused as refusal:
         if refusal.number != 12:
-            raise
+            raise refusal.with_note(about(refusal.number, settings)) from refusal
 
 
 def convert(path, folder, force=False):
@@ -119,18 +119,15 @@ def convert(path, folder, force=False):
     binning = record_of(folder, "frame.bin").get("binning", 1)
     settings = read_toml(path, settings_or_none(folder), binning)
     contents = settings_bytes(settings)
-    try:
-        check(settings)
-    except Refused as refusal:
-        raise refusal.with_note(_note(refusal.number, settings)) from refusal
+    check(settings)
     write_folder(folder, {"settings.bin": contents}, "settings", force=force)
     return settings, binning
 
 
-def _note(number, settings):
-    """The values that a refusal of settings is about, and what they may be."""
+def about(number, settings):
+    """The values that a refusal of settings is about, and what they may be; None for a refusal of something else."""
     told = "; ".join(f"{name} is {getattr(settings, name)}, and must be {RANGES[name]}" for name in ABOUT.get(number, ()))
-    return f"{told}; the file may name them, else they are the folder's frame's" if number == 1 else told
+    return f"{told}; the file may name them, else they are the folder's frame's" if number == 1 else told or None
 
 
 def convert_back(folder, path, force=False):

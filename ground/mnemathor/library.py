@@ -5,6 +5,7 @@ Nothing here decides anything. Names, order and units are those of include/mnema
 
 import ctypes
 import os
+import subprocess
 from ctypes import byref, c_int64
 from dataclasses import dataclass, replace
 from functools import cache
@@ -14,8 +15,9 @@ import numpy as np
 
 from . import structures as c
 from .folder import PIXEL, STAR, UNIT, Settings
-from .refusals import Mistake, Refused, beside
+from .refusals import CHECKOUT, Mistake, Refused, beside
 
+MADE = "target/library/libmnemathor.so"
 KINDS = ("dark", "beaten", "edge", "lone", "measured")
 SIDES = ("left", "right", "top", "bottom")
 
@@ -92,7 +94,13 @@ class Guide:
 
 def path():
     """Where the shared library is: MNEMATHOR_LIBRARY, else the installed one, else the one that ./library makes."""
-    return Path(os.environ.get("MNEMATHOR_LIBRARY") or beside("libmnemathor.so", "target/library/libmnemathor.so"))
+    return Path(os.environ.get("MNEMATHOR_LIBRARY") or beside("libmnemathor.so", MADE))
+
+
+def _of_these_sources(where):
+    """Whether the checkout's library was made from its sources as they are, as the file stamps judges it. ./mnemathor has asked already."""
+    words = ["bash", "-c", 'here=$1; . "$1/stamps"; fresh "$2"', "bash", str(CHECKOUT), str(where.parent / "made-from")]
+    return subprocess.run(words, check=False).returncode == 0
 
 
 @cache
@@ -101,6 +109,8 @@ def _loaded():
     where = path()
     if not where.exists():
         raise Mistake(f"{where} is missing; the command ./library proves and builds it")
+    if where == CHECKOUT / MADE and not os.environ.get("MNEMATHOR_CHECKED") and not _of_these_sources(where):
+        raise Mistake(f"{where} was made from other sources than these; the command ./library makes it anew")
     try:
         loaded = ctypes.CDLL(str(where))
         for name, arguments in c.CALLS.items():
