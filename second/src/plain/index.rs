@@ -1,6 +1,6 @@
 //! The index of pair dot products: building it, testing it, and votes by it.
 
-use super::{dot, read_catalogue, Pair, Votes};
+use super::{dot, read_catalogue, Votes};
 use crate::answer::{Refusal, Vector};
 
 const RECORD_BYTES: usize = 12;
@@ -86,31 +86,28 @@ impl Index<'_> {
         (product, u32::from_be_bytes(numbers.try_into().expect("four bytes")))
     }
 
-    /// Whether all star pairs that may agree with this pair of directions are at or above the floor.
-    pub fn reaches(&self, &(_, _, direction_pair): &Pair, tolerance: i64) -> bool {
-        direction_pair - tolerance >= self.floor
+    /// Whether all star pairs that may agree with a pair of directions that has this product are at or above the floor.
+    pub fn reaches(&self, product: i64, tolerance: i64) -> bool {
+        product - tolerance >= self.floor
     }
 
-    /// The votes of a pair of directions: the first record that agrees by halving, then up to the last.
-    pub fn vote(&self, &(i, j, direction_pair): &Pair, tolerance: i64, votes: &mut Votes) {
+    /// The votes of a pair of directions that has this product: the first record that agrees by halving, then up to the last.
+    pub fn vote(&self, product: i64, tolerance: i64, votes: &mut Votes) {
         let (mut low, mut high) = (0, self.len());
         while low < high {
             let middle = (low + high) / 2;
-            if self.record(middle).0 < direction_pair - tolerance {
+            if self.record(middle).0 < product - tolerance {
                 low = middle + 1;
             } else {
                 high = middle;
             }
         }
-        let agreeing = (low..self.len())
-            .map(|k| self.record(k))
-            .take_while(|&(product, _)| product <= direction_pair + tolerance);
+        let agreeing =
+            (low..self.len()).map(|k| self.record(k)).take_while(|&(stars, _)| stars <= product + tolerance);
         for record in agreeing {
             let (a, b) = stars_of(record);
-            votes[i][a] += 1;
-            votes[i][b] += 1;
-            votes[j][a] += 1;
-            votes[j][b] += 1;
+            votes[a] += 1;
+            votes[b] += 1;
         }
     }
 }
