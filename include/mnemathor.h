@@ -263,7 +263,7 @@ struct mn_framed {
 };
 
 /* The archive's functions. Each writes its answer into `out`, refused or not: number and place of a refusal first, and zeros where there is no answer. Lists
- * and rooms of a wrong length are refused like any other input. Only an `out` with room for fewer than MN_NUMBERS stays as it was: nothing can be told there. */
+ * and rooms of a wrong length are refused like any other input. Only an `out` with room for fewer than MN_NUMBERS stays as it was: nothing can be told. */
 
 void mnemathor_verdict(const uint16_t *samples, size_t samples_len, size_t width, size_t height, size_t threshold, size_t row, size_t column, int64_t *out,
                        size_t out_len);

@@ -1,7 +1,7 @@
 -- The numbers of a frame's list do for the list: the guider looks at how many stars there are and where, and at nothing else; so the list of
 -- `mnemathor_list` is never the cause of 22. Assumes nothing.
 use mathlib.Core.Bool.{Bool, true, false, cond, not, _&&_}
-use mathlib.Core.Path.{_≡_, refl, sym, ap, _∙_}
+use mathlib.Core.Path.{_≡_, refl, sym, ap, subst, _∙_}
 use mathlib.Core.List.{List, _∷_, _++_}
 use Prim.Native.Nat.{ℕ, zero, suc, _+_, _*_, _≤_, _<_}
 use native.Mathlib.Decide.{decLt}
@@ -121,14 +121,14 @@ module _ (samples : List ℕ) (width height threshold : ℕ) where
     read-count : reportIn numbers .count ≡ report .count
     read-count = ap (λ (xs : List ℤ). numberIn xs 2) numbers-are ∙ signed-back (report .count) (omega (arith, report-few))
 
-    read-across : (k : ℕ) → starAt (reportIn numbers) k .x ≡ starAt report k .x
+    read-placed : (k : ℕ) → (starAt (reportIn numbers) k .x ≡ starAt report k .x) × (starAt (reportIn numbers) k .y ≡ starAt report k .y)
     unfolding joined
-    read-across k = ap (λ (xs : List ℤ). starAt (reportIn xs) k .x) numbers-are ∙ at k
+    read-placed k = subst (λ (xs : List ℤ). (starAt (reportIn xs) k .x ≡ starAt report k .x) × (starAt (reportIn xs) k .y ≡ starAt report k .y)) (sym numbers-are) (at k)
       where
-        back : (k : ℕ) → k < 8 → unsignedOf (signedOf (starAt report k .x)) ≡ starAt report k .x
-        back k h = signed-back (starAt report k .x) (omega (arith, placed k h .0))
+        back : (k : ℕ) → k < 8 → (unsignedOf (signedOf (starAt report k .x)) ≡ starAt report k .x) × (unsignedOf (signedOf (starAt report k .y)) ≡ starAt report k .y)
+        back k h = let p = placed k h in (signed-back (starAt report k .x) (omega (arith, p .0)), signed-back (starAt report k .y) (omega (arith, p .1)))
 
-        at : (k : ℕ) → starAt (reportIn (listingNumbers (record { outcome = Accepted; report = report }))) k .x ≡ starAt report k .x
+        at : (k : ℕ) → (starAt (reportIn (listingNumbers (record { outcome = Accepted; report = report }))) k .x ≡ starAt report k .x) × (starAt (reportIn (listingNumbers (record { outcome = Accepted; report = report }))) k .y ≡ starAt report k .y)
         at zero = back 0 (omega arith)
         at (suc zero) = back 1 (omega arith)
         at (suc (suc zero)) = back 2 (omega arith)
@@ -137,32 +137,16 @@ module _ (samples : List ℕ) (width height threshold : ℕ) where
         at (suc (suc (suc (suc (suc zero))))) = back 5 (omega arith)
         at (suc (suc (suc (suc (suc (suc zero)))))) = back 6 (omega arith)
         at (suc (suc (suc (suc (suc (suc (suc zero))))))) = back 7 (omega arith)
-        at (suc (suc (suc (suc (suc (suc (suc (suc k)))))))) = sym (ap (λ (c : Centroid). c .x) (List·getD-eq-default (report .stars) nought (omega (arith, report-size))))
-
-    read-down : (k : ℕ) → starAt (reportIn numbers) k .y ≡ starAt report k .y
-    unfolding joined
-    read-down k = ap (λ (xs : List ℤ). starAt (reportIn xs) k .y) numbers-are ∙ at k
-      where
-        back : (k : ℕ) → k < 8 → unsignedOf (signedOf (starAt report k .y)) ≡ starAt report k .y
-        back k h = signed-back (starAt report k .y) (omega (arith, placed k h .1))
-
-        at : (k : ℕ) → starAt (reportIn (listingNumbers (record { outcome = Accepted; report = report }))) k .y ≡ starAt report k .y
-        at zero = back 0 (omega arith)
-        at (suc zero) = back 1 (omega arith)
-        at (suc (suc zero)) = back 2 (omega arith)
-        at (suc (suc (suc zero))) = back 3 (omega arith)
-        at (suc (suc (suc (suc zero)))) = back 4 (omega arith)
-        at (suc (suc (suc (suc (suc zero))))) = back 5 (omega arith)
-        at (suc (suc (suc (suc (suc (suc zero)))))) = back 6 (omega arith)
-        at (suc (suc (suc (suc (suc (suc (suc zero))))))) = back 7 (omega arith)
-        at (suc (suc (suc (suc (suc (suc (suc (suc k)))))))) = sym (ap (λ (c : Centroid). c .y) (List·getD-eq-default (report .stars) nought (omega (arith, report-size))))
+        at (suc (suc (suc (suc (suc (suc (suc (suc k)))))))) =
+            let z : starAt report (suc (suc (suc (suc (suc (suc (suc (suc k)))))))) ≡ nought = List·getD-eq-default (report .stars) nought (omega (arith, report-size)) in
+            (sym (ap (λ (c : Centroid). c .x) z), sym (ap (λ (c : Centroid). c .y) z))
 
     accepted-seen : (g : Guider) → seenBy g (reportIn numbers) (outcomeIn (numberIn numbers 0)) ≡ seenBy g (listing .report) (listing .outcome)
     unfolding listingOf
     accepted-seen g =
         ap (λ (xs : List ℤ). seenBy g (reportIn numbers) (outcomeIn (numberIn xs 0))) numbers-are
         ∙ ap (λ (n : ℕ). seenBy g (reportIn numbers) (outcomeIn n)) (signed-back 0 (omega arith))
-        ∙ same-seen g (reportIn numbers) report read-count read-across read-down
+        ∙ same-seen g (reportIn numbers) report read-count (λ k. read-placed k .0) (λ k. read-placed k .1)
         ∙ rw e refl
 
   refused-seen : (q : Refusal) → lowest (frameRows samples width height threshold) ≡ Refused q → (g : Guider) → seenBy g (reportIn numbers) (outcomeIn (numberIn numbers 0)) ≡ seenBy g (listing .report) (listing .outcome)

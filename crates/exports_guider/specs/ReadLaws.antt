@@ -3,17 +3,20 @@ use mathlib.Core.Bool.{Bool, true, false, cond}
 use mathlib.Core.Path.{_≡_, refl, sym, ap, subst, _∙_}
 use mathlib.Core.List.{List, [], _∷_}
 use mathlib.Core.Logic.{_⊎_, inl, inr, ⊎-elim}
-use Prim.Native.Nat.{ℕ, zero, suc, _+_, _*_, _≤_, _<_}
+use Prim.Native.Nat.{ℕ, zero, suc, _+_, _*_, _/_, _%_, _≤_, _<_}
 use native.Mathlib.Decide.{decLt, ℕ-discrete}
 use native.Mathlib.Omega.{arith}
-use borrow.Author.Tests.{lt-ltb, le-ltb}
-use lib.Dec.{ltb}
+use borrow.Author.Tests.{lt-ltb, le-ltb, ltb-false, eqb-true}
+use lib.Dec.{eqb, ltb}
 use lib.IntN.{ℤ, pos}
-use lib.ListN.{length, getD, set, length-set}
+use lib.ListN.{length, getD, set, length-set, List·getD-eq-default}
 use lib.Seq.{ext-getD, getD-set-same, getD-set-other}
 use lib.Signed.{ltZ}
+use Rattle.counting.specs.Contradiction.{contradiction}
 use Rattle.refusal.specs.declared.Outcome.{Outcome}
 use Rattle.refusal.specs.declared.Outcome.the-variants.{Accepted, Refused}
+use Rattle.refusal.specs.Numbers as number
+use Rattle.refusal.specs.Table.{refusalOf}
 use Rattle.frame.specs.declared.Listing.{Listing}
 use Rattle.handover.specs.Numbers.{signedOf}
 use Rattle.guiding.specs.declared.Guide.{Guide}
@@ -22,13 +25,13 @@ use Rattle.guiding.specs.declared.Guided.{Guided}
 use Rattle.guiding.specs.Guider.{noGuide, guideAt, guiderAfter}
 use Rattle.guiding.specs.Rule.{guiderOk, listOk}
 use Rattle.guiding.specs.RuleLaws.{GuiderRule, guider-keeps}
-use Rattle.guiding.specs.Calls.{refusedWith, guidedOf}
+use Rattle.guiding.specs.Calls.{noSighting, freshGuide, freshOf, startedOf, refusedWith, guidedOf}
 use Rattle.guiding.specs.FollowLaws.{follower, misser, stayer, fates}
 use Rattle.guiding.specs.AfterLaws.{Whole, guide-after, guide-behind, handed, rule-kept, whole-kept, count-kept}
 use Rattle.guiding.specs.ChainLaws.{guiderAt}
-use Rattle.exports_guider.specs.Rooms.{unsignedOf, numberIn, largestIdentity, guideIn, guiderIn, withGuide, withGuides, withGuider, listingIn}
+use Rattle.exports_guider.specs.Rooms.{unsignedOf, numberIn, largestIdentity, sightingIn, sightingsIn, guideIn, guiderIn, withGuide, withGuides, withGuider, listingIn}
 use Rattle.exports_guider.specs.RoomLaws.{length-guides, stands}
-use Rattle.exports_guider.specs.Guider.{framedIn, gone, framedRoom, taken, frameRoom}
+use Rattle.exports_guider.specs.Guider.{startedIn, startRoom, startOutcome, framedIn, gone, framedRoom, taken, frameRoom}
 
 -- a number of 63 bits is read as itself
 pub signed-back : (n : ℕ) → n ≤ 9223372036854775807 → unsignedOf (signedOf n) ≡ n
@@ -190,6 +193,65 @@ guider-back g room fits w half count small =
     let c = head-stays (g .guides) headed 4 1 (omega arith) ∙ getD-set-same zeroth 1 (signedOf (g .count)) (pos 0) (omega (arith, l0)) in
     guider-by g (withGuider g room) w (ap unsignedOf h ∙ signed-back (g .half) half) (ap unsignedOf c ∙ signed-back (g .count) count)
     (λ i l. guides-back (g .guides) headed (omega (arith, l0, l1)) 4 i (omega arith) l (small i l))
+
+-- ---- a start
+
+-- a number that is read as an identity is one
+sighting-small : (xs : List ℤ) (at : ℕ) → sightingIn xs at .identity ≤ largestIdentity
+sighting-small xs at = by (ltb largestIdentity (numberIn xs at)) refl
+  where
+    by : (t : Bool) → ltb largestIdentity (numberIn xs at) ≡ t → sightingIn xs at .identity ≤ largestIdentity
+    by true e = rw e (omega arith)
+    by false e = rw e (ltb-false largestIdentity (numberIn xs at) e)
+
+nothing-there : (xs : List ℤ) (at : ℕ) → length xs ≤ at → numberIn xs at ≡ 0
+nothing-there xs at h = ap unsignedOf (List·getD-eq-default xs (pos 0) h) ∙ signed-back 0 (omega arith)
+
+-- behind the numbers there is no star
+no-sighting : (xs : List ℤ) (at : ℕ) → length xs ≤ at → sightingIn xs at ≡ noSighting
+no-sighting xs at h = rw (nothing-there xs at h, nothing-there xs (at + 1) (omega arith), nothing-there xs (at + 2) (omega arith)) refl
+
+module _ (half : ℤ) (stars room : List ℤ) (fits : length room ≡ 18) where
+  abbrev fresh : Guider
+  fresh = freshOf (unsignedOf half) (sightingsIn stars) (length stars / 3)
+
+  fresh-small : guiderOk fresh ≡ true → length stars % 3 ≡ 0 → (i : ℕ) → i < 4 → Small (guideAt fresh i)
+  fresh-small ok threes i h = by i h (decLt i (length stars / 3))
+    where
+      keeps : GuiderRule fresh
+      keeps = guider-keeps fresh ok
+
+      small : (at : ℕ) → sightingIn stars at .x ≤ 9223372036854775807 → sightingIn stars at .y ≤ 9223372036854775807 → Small (freshGuide (sightingIn stars at))
+      small at a b = record { identity = sighting-small stars at; across = a; down = b; late = omega arith }
+
+      on : (i : ℕ) → i < length stars / 3 → (guideAt fresh i .x ≤ 9223372036854775807) × (guideAt fresh i .y ≤ 9223372036854775807)
+      on i l = let o = keeps .places i l in (omega (arith, o .across), omega (arith, o .down))
+
+      off : (at : ℕ) → length stars ≤ at → Small (freshGuide (sightingIn stars at))
+      off at l = rw (no-sighting stars at l) (record { identity = omega arith; across = omega arith; down = omega arith; late = omega arith })
+
+      by : (i : ℕ) → i < 4 → Dec (i < length stars / 3) → Small (guideAt fresh i)
+      by zero h (yes l) = small 0 (on 0 l .0) (on 0 l .1)
+      by (suc zero) h (yes l) = small 3 (on 1 l .0) (on 1 l .1)
+      by (suc (suc zero)) h (yes l) = small 6 (on 2 l .0) (on 2 l .1)
+      by (suc (suc (suc zero))) h (yes l) = small 9 (on 3 l .0) (on 3 l .1)
+      by zero h (no l) = off 0 (omega arith)
+      by (suc zero) h (no l) = off 3 (omega arith)
+      by (suc (suc zero)) h (no l) = off 6 (omega arith)
+      by (suc (suc (suc zero))) h (no l) = off 9 (omega arith)
+      by (suc (suc (suc (suc i)))) h d = absurd (omega arith)
+
+  -- what an accepted start leaves in the room is read as the guider that the rule gives
+  pub start-read : startOutcome half stars room ≡ Accepted → guiderIn (startRoom half stars room) ≡ startedIn half stars .guider
+  unfolding startOutcome startRoom startedIn startedOf
+  start-read e = by (eqb (length stars % 3) 0) refl (guiderOk fresh) refl e
+    where
+      by : (t : Bool) → eqb (length stars % 3) 0 ≡ t → (u : Bool) → guiderOk fresh ≡ u → startOutcome half stars room ≡ Accepted → guiderIn (startRoom half stars room) ≡ startedIn half stars .guider
+      by false a u b k = let z : refusalOf number.guider 0 ≡ Accepted = rw (fits, a) at k in contradiction (cc)
+      by true a false b k = let z : refusalOf number.guider 0 ≡ Accepted = rw (fits, a, b) at k in contradiction (cc)
+      by true a true b k =
+          rw (fits, a, b)
+          (guider-back fresh room (omega arith) refl (omega (arith, guider-keeps fresh b .narrow)) (omega (arith, guider-keeps fresh b .few)) (fresh-small b (eqb-true (length stars % 3) 0 a)))
 
 -- ---- a frame
 
