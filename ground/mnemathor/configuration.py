@@ -37,6 +37,8 @@ def angle_of(tolerance, separation):
 
 def read_toml(path, before=Settings(), binning=1):
     """The settings in a TOML file; size and centre may be left out, and are then those of `before`, and so may how the frame was binned."""
+    if Path(path).exists() and not Path(path).is_file():
+        raise Mistake(f"{path} is not a file")
     try:
         told = tomllib.loads(Path(path).read_text(encoding="utf-8-sig"))
     except (OSError, UnicodeDecodeError, tomllib.TOMLDecodeError) as error:

@@ -72,6 +72,8 @@ def ring(settings):
 def kind_of(path):
     """The kind of picture that a file's ending stands for."""
     kind = Path(path).suffix.lower().lstrip(".")
+    if Path(path).is_dir():
+        raise Mistake(f"{path} is a folder; the folder comes first, the picture second")
     if kind not in KINDS:
         raise Mistake(f"{path} must end in .png, .pdf or .svg")
     return kind

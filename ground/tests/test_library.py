@@ -1,8 +1,11 @@
 """The library through ctypes: answers, refusals, lent memory, and structs that are the header's."""
 
 import ctypes
+import os
 import re
+import shutil
 import subprocess
+import sys
 
 import numpy as np
 import pytest
@@ -162,3 +165,27 @@ def test_every_call_takes_what_the_header_says():
     for name, arguments in structures.CALLS.items():
         (told,) = re.findall(rf"MN_FUNCTION struct mn_refusal {name}\((.*?)\)", header)
         assert [python_argument(kind) for kind in arguments] == c_arguments(told), name
+
+
+def test_a_library_of_other_sources_is_not_used(tmp_path):
+    """A checkout with one crate, whose library's stamp fits, until the crate changes."""
+    shutil.copytree(ROOT / "ground" / "mnemathor", tmp_path / "ground" / "mnemathor")
+    shutil.copytree(ROOT / "include", tmp_path / "include")
+    for name in ("stamps", "library", "crates.txt"):
+        shutil.copy(ROOT / name, tmp_path)
+    crate, made = tmp_path / "crates" / "one" / "src" / "lib.rt", tmp_path / "target" / "library"
+    crate.parent.mkdir(parents=True)
+    made.mkdir(parents=True)
+    crate.write_text("before")
+    shutil.copy(library.path(), made / "libmnemathor.so")
+    subprocess.run(["bash", "-c", f"here={tmp_path}; . ./stamps; stamp_sources target/library/made-from"], cwd=tmp_path, check=True)
+    environment = {name: value for name, value in os.environ.items() if name not in ("MNEMATHOR_LIBRARY", "MNEMATHOR_CHECKED")}
+    words = [sys.executable, "-c", "from mnemathor import library; print(library.focal_of_pixels(64.0))"]
+
+    def asked():
+        environment["PYTHONPATH"] = str(tmp_path / "ground")
+        return subprocess.run(words, cwd=tmp_path, env=environment, capture_output=True, text=True, check=False)
+
+    assert asked().stdout == "16384\n"
+    crate.write_text("after")
+    assert "was made from other sources than these" in asked().stderr

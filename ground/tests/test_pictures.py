@@ -167,6 +167,8 @@ def test_the_ending_says_which_kind(run, folder, tmp_path):
         out = tmp_path / f"out.{ending}"
         assert run("picture", folder, out)[0] == 0 and out.read_bytes().startswith(start)
         assert run("picture", folder, out)[0] == 0
+    status, _, err = run("picture", tmp_path / "out.png", folder)
+    assert status == 2 and "the folder comes first" in err
     for name in ("out.jpg", "out"):
         status, _, err = run("picture", folder, tmp_path / name)
         assert status == 2 and "must end in .png, .pdf or .svg" in err and not (tmp_path / name).exists()
