@@ -23,16 +23,10 @@ STARS = (4, 5, 6, 7, 8)
 MOST, LEAST = 8, 3
 # No two measured pixels are nearer than this in both directions, and none is nearer to a side: half a window.
 APART = 3
+# Pairs that accept so many of so many first lists are not judged on the others: their rate is known to about a third.
+FIRST, ENOUGH = 500, 25
 # The library refuses a list that matches nothing sooner than the quick test finds out, for catalogues smaller than this.
 FEW = 200
-
-
-@dataclass(frozen=True)
-class Found:
-    """What one list gave for one tolerance: the most names that are accepted, and for each needed count whether that is alone."""
-
-    names: int
-    alone: dict
 
 
 @dataclass(frozen=True)
@@ -59,17 +53,13 @@ class Cell:
 
 @dataclass(frozen=True)
 class Alarms:
-    """The cells of a grid, of so many of the lists that were asked for."""
+    """The cells of a grid, and how many lists were judged of those asked for: fewer where it was stopped."""
 
     cells: tuple
     asked: int
+    lists: int
     seed: int
     kind: str
-
-    @property
-    def lists(self):
-        """How many lists were judged; fewer than asked for where it was stopped."""
-        return self.cells[0].lists if self.cells else 0
 
     def cell(self, tolerance, needed):
         """The cell of a pair of settings, or None."""
@@ -116,14 +106,20 @@ def strange_weather(weather, catalogue):
 def measure(settings, catalogue, tolerances, needed, lists, stars=STARS, seed=0, strange=None, rivals=True, processes=None, quiet=False):
     """Judges so many lists for every pair of settings; `strange` is a star list's records and a weather, else positions are random.
 
+    A pair that accepts many of the first lists is known well enough, and is judged on these alone; its cell says how many lists it has.
     Without `rivals` none is asked whether it is alone. Stopped by Ctrl-C, it hands back what was judged so far.
     """
     _check(settings, catalogue, tolerances, needed, lists, stars)
-    tolerances, needed = sorted({int(t) for t in tolerances}, reverse=True), sorted({int(n) for n in needed})
-    judge = Judge(settings, catalogue, tolerances, needed, rivals)
-    results = gathered((judge, tuple(stars), seed, strange), _one, lists, processes, quiet)
-    cells = tuple(_cell(t, n, results) for t in reversed(tolerances) for n in needed) if results else ()
-    return Alarms(cells, lists, seed, "random" if strange is None else "strange")
+    pairs = [(int(t), int(n)) for t in sorted(set(tolerances)) for n in sorted(set(needed))]
+    judge = Judge(settings, catalogue, pairs, rivals)
+    job = (tuple(stars), seed, strange)
+    results = gathered((judge, *job), _one, range(min(FIRST, lists)), processes, quiet)
+    cells = {pair: _cell(pair, results) for pair in pairs} if results else {}
+    left = [pair for pair, cell in cells.items() if cell.accepted < ENOUGH]
+    if left and len(results) == FIRST < lists:
+        results += gathered((Judge(settings, catalogue, left, rivals), *job), _one, range(FIRST, lists), processes, quiet)
+        cells.update({pair: _cell(pair, results) for pair in left})
+    return Alarms(tuple(cells.values()), lists, len(results), seed, "random" if strange is None else "strange")
 
 
 def _check(settings, catalogue, tolerances, needed, lists, stars):
@@ -146,42 +142,46 @@ def _check(settings, catalogue, tolerances, needed, lists, stars):
 class Judge:
     """Everything that is the same for all lists of a camera."""
 
-    def __init__(self, settings, catalogue, tolerances, needed, rivals=True):
-        """Tolerances fall, needed counts rise."""
-        self.settings, self.catalogue, self.tolerances, self.needed, self.rivals = settings, catalogue, tolerances, needed, rivals
+    def __init__(self, settings, catalogue, pairs, rivals=True):
+        """Pairs are tolerance and needed count."""
+        self.settings, self.catalogue, self.rivals = settings, catalogue, rivals
+        self.needed = {t: sorted(n for tolerance, n in pairs if tolerance == t) for t in sorted({t for t, _ in pairs}, reverse=True)}
         corner = np.hypot(settings.width, settings.height) * PIXEL
         across = 2 * np.arctan(corner / settings.focal)
-        self.possible = Possible(catalogue, tolerances[0], float(UNIT) ** 2 * np.cos(min(across, np.pi)))
+        self.possible = Possible(catalogue, max(self.needed), float(UNIT) ** 2 * np.cos(min(across, np.pi)))
         self.asked, self.whole = Counter(), Counter()
 
     def found(self, positions):
-        """What a list gives, for each tolerance. What does not fit a tolerance does not fit a smaller one either."""
+        """For each pair that accepts a list whether that is alone. What does not fit a tolerance does not fit a smaller one either."""
         rows = np.array([library.direction(self.settings, *position) for position in positions], np.int32).reshape(-1, 3)
-        answers, most = [], len(rows)
-        for tolerance in self.tolerances:
-            answers.append(self._found(rows, tolerance, most))
-            most = answers[-1].names
+        answers, refused = {}, len(rows) + 1
+        for tolerance in self.needed:
+            alone, refused = self._found(rows, tolerance, refused)
+            answers.update({(tolerance, needed): answer for needed, answer in alone.items()})
         return answers
 
-    def _found(self, rows, tolerance, most):
-        """The same for one tolerance. An assignment with more names than are needed is the first that fits for those counts as well."""
+    def _found(self, rows, tolerance, refused):
+        """The same for one tolerance, and the smallest needed count known to be refused.
+
+        An assignment with more names than are needed is the first that fits for those counts as well.
+        """
         names, alone, ranking = 0, {}, None
-        for needed in self.needed:
-            settings = replace(self.settings, tolerance=tolerance, needed=needed)
-            if needed > most:
+        for needed in self.needed[tolerance]:
+            if needed >= refused:
                 break
+            settings = replace(self.settings, tolerance=tolerance, needed=needed)
             if needed > names or self.rivals:
                 stars = self._stars(rows, tolerance, needed)
                 if len(stars) < needed:
-                    break
+                    return alone, needed
                 ranking = library.rank(rows, self.catalogue, settings, library.new_room()) if ranking is None else ranking
                 part = self.catalogue[stars], settings, _among(ranking.reshape(len(rows), -1), stars)
             if needed > names:
                 names = _names(rows, *part)
             if needed > names:
-                break
+                return alone, needed
             alone[needed] = self.rivals and library.rival(rows, *part) is None
-        return Found(max(alone, default=0), alone)
+        return alone, refused
 
     def _stars(self, rows, tolerance, needed):
         """The stars to search among: those that are usable, or all where that is quicker: of a small catalogue, or if mostly half of it is usable."""
@@ -226,12 +226,12 @@ def _start(job):
     signal.signal(signal.SIGINT, signal.SIG_IGN)
 
 
-def gathered(job, one, count, processes, quiet):
-    """What `one` gives for each number below `count`, in order, from several processes; after Ctrl-C as many as there are."""
+def gathered(job, one, numbers, processes, quiet):
+    """What `one` gives for each number, in order, from several processes; after Ctrl-C as many as there are."""
     results = []
     with multiprocessing.Pool(processes, _start, (job,)) as pool:
         try:
-            for result in tqdm(pool.imap(one, range(count), chunksize=8), total=count, unit="list", disable=True if quiet else None):
+            for result in tqdm(pool.imap(one, numbers, chunksize=8), total=len(numbers), unit="list", disable=True if quiet else None):
                 results.append(result)
         except KeyboardInterrupt:
             pool.terminate()
@@ -239,26 +239,25 @@ def gathered(job, one, count, processes, quiet):
 
 
 def _one(number):
-    """One list, by its number: how many positions it has, and what each tolerance gives."""
+    """One list, by its number: how many positions it has, and which pairs accept it."""
     judge, stars, seed, strange = _job
     random = np.random.default_rng((seed, number))
     if strange is None:
         positions = random_positions(random, judge.settings, stars[number % len(stars)])
     else:
         positions = strange_positions(random, judge.settings, judge.catalogue, *strange)
-    return len(positions), {t: answer for t, answer in zip(judge.tolerances, judge.found(positions))}
+    return len(positions), judge.found(positions)
 
 
-def _cell(tolerance, needed, results):
+def _cell(pair, results):
     """The sums over all lists for one pair."""
     lists, accepted, alone = Counter(), Counter(), Counter()
     for count, answers in results:
-        known = answers[tolerance].alone
         lists[count] += 1
-        accepted[count] += needed in known
-        alone[count] += known.get(needed, False)
+        accepted[count] += pair in answers
+        alone[count] += answers.get(pair, False)
     by_stars = {count: {"lists": lists[count], "accepted": accepted[count], "alone": alone[count]} for count in sorted(lists)}
-    return Cell(tolerance, needed, len(results), sum(accepted.values()), sum(alone.values()), by_stars)
+    return Cell(*pair, len(results), sum(accepted.values()), sum(alone.values()), by_stars)
 
 
 def table(alarms, side):
@@ -272,6 +271,7 @@ def table(alarms, side):
     short = "" if alarms.lists == alarms.asked else f", stopped before {alarms.asked}"
     lines = [
         f"{alarms.lists} lists of {spread} {what}, no catalogue star behind any{short}; seed {alarms.seed}; in brackets the 95 % upper bound, exact",
+        f"(a pair that accepts {ENOUGH} of the first {FIRST} is judged on these alone)",
         f"{'tolerance':>17} {f'at {side.to_value(u.deg):.1f}°':>9} {'needed':>6} {'accepted':>20} {'accepted and alone':>20} {f'accepted, lists of {most}':>22}",
     ]
     for cell in alarms.cells:

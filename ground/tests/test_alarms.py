@@ -135,10 +135,22 @@ def test_alarms_are_counted_as_list_by_list(settings, catalogue):
     assert one.cells[2].accepted > 0
 
 
+def test_pairs_that_accept_many_are_judged_on_the_first_lists(settings, catalogue, monkeypatch):
+    """Both rounds give what one round over all lists gives; what is settled keeps the count of the first."""
+    grid = (settings, catalogue, [NARROW, 8 * 10**14], [3, 4], 40)
+    whole = alarms.measure(*grid, stars=(8,), processes=1, quiet=True)
+    monkeypatch.setattr(alarms, "FIRST", 20)
+    monkeypatch.setattr(alarms, "ENOUGH", 15)
+    two = alarms.measure(*grid, stars=(8,), processes=1, quiet=True)
+    settled = [cell for cell in two.cells if cell.lists == 20]
+    assert settled and all(cell.accepted >= 15 for cell in settled) and two.lists == 40
+    assert [cell for cell in two.cells if cell.lists == 40] == [whole.cell(cell.tolerance, cell.needed) for cell in two.cells if cell.lists == 40]
+
+
 def test_empty_from_the_command_line(run, folder):
     words = ("trial", folder, "--empty", "--lists", 40, "--tolerances", NARROW, "--needed", 3, 4)
     status, out, _ = run(*words)
-    assert status == 0 and out.startswith("40 lists of 4 to 8 random positions, no catalogue star behind any") and len(out.splitlines()) == 4
+    assert status == 0 and out.startswith("40 lists of 4 to 8 random positions, no catalogue star behind any") and len(out.splitlines()) == 5
     told = json.loads(run(*words, "--json")[1])
     assert told["lists"] == 40 and [cell["needed"] for cell in told["cells"]] == [3, 4]
     assert told["cells"][0]["bound"] >= told["cells"][0]["accepted"] / 40
@@ -179,7 +191,7 @@ def test_what_was_judged_is_told_when_it_is_stopped(settings, catalogue, monkeyp
 
 def counted(grid):
     """Alarms with these numbers of accepted lists of 10,000, by tolerance and needed count."""
-    return alarms.Alarms(tuple(alarms.Cell(t, n, 10000, accepted, 0, {}) for (t, n), accepted in grid.items()), 10000, 0, "random")
+    return alarms.Alarms(tuple(alarms.Cell(t, n, 10000, accepted, 0, {}) for (t, n), accepted in grid.items()), 10000, 10000, 0, "random")
 
 
 def frames(tolerance, needed, accepted, wrong=0):
@@ -200,7 +212,7 @@ def test_the_pair_that_is_taken():
     assert choose(cells[:1], counted({(10, 4): 4}), 0.001) is cells[0] and choose(cells[:1], counted({(10, 4): 5}), 0.001) is None
     assert choose([frames(10, 4, 900, 1)], counted(quiet), 0.001) is None
     # Lists too few to tell keep every pair out.
-    few = alarms.Alarms((alarms.Cell(10, 4, 2900, 0, 0, {}),), 2900, 0, "random")
+    few = alarms.Alarms((alarms.Cell(10, 4, 2900, 0, 0, {}),), 2900, 2900, 0, "random")
     assert choose(cells[:1], few, 0.001) is None and choose(cells[:1], few, 0.0011) is cells[0]
 
 
