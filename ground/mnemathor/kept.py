@@ -6,7 +6,8 @@ from dataclasses import dataclass, replace
 from pathlib import Path
 
 from .alarms import LEAST, MOST, measure
-from .folder import settings_bytes, write_folder
+from .folder import settings_bytes
+from .keeping import write_folder
 from .rates import in_words, upper_bound
 from .refusals import Mistake
 
