@@ -13,6 +13,6 @@ pub fn direction_of(cx: i64, cy: i64, lens: Lens, x: i64, y: i64) -> Direction
 {
     match lens::focal_of(lens) {
         Focal::Refused(r) => Direction::Refused(r),
-        Focal::Whole(focal) => direction::direction_of(cx, cy, focal, x, y),
+        Focal::Whole(focal) => direction::direction_by_focal(cx, cy, focal, x, y),
     }
 }

@@ -1,7 +1,7 @@
 // The limit of magnitude as a word: a signed number of 32 bits.
 use text::Signed;
 ghost use mathlib.Core.Path.{_≡_};
-ghost use Rattle.cut_lines.specs.Limit.{limitFor, limitOf};
+ghost use Rattle.cut_lines.specs.Limit.{limitFor, limitOf, numbersOf, numbersFor};
 
 pub enum Limit {
     Number(i32),
@@ -28,6 +28,7 @@ fn narrow(z: i64) -> Limit
 // The number that a word spells in decimal, with a "-" in front where it is below zero.
 pub fn parse_limit(word: &[u8]) -> Limit
     ensures { λ r. ⌜ r ≡ limitOf (now (word .entry)) ⌝ }
+    ensures { λ r. ⌜ numbersOf r ≡ numbersFor (now (word .entry)) ⌝ }
 {
     let number = text::parse_signed(word);
     match number {

@@ -40,7 +40,7 @@ fn refused() -> Direction
 }
 
 // The direction of a position, in 1/256 pixel, for a focal length that is in range.
-pub fn direction_of(cx: i64, cy: i64, focal: i64, x: i64, y: i64) -> Direction
+pub fn direction_by_focal(cx: i64, cy: i64, focal: i64, x: i64, y: i64) -> Direction
     requires { ⌜ Between 16384 4194304 focal ⌝ }
     ensures { λ r. ⌜ r ≡ directionOf cx cy focal x y ⌝ }
     ensures { λ r. ⌜ answerOf r ≡ answerFor cx cy focal x y ⌝ }

@@ -36,7 +36,7 @@ pub fn index(word: u16) -> usize
     word as usize
 }
 
-// The dot products of direction i with each of the first n, of which it is none. They serve the whole row.
+// The dot products of direction i with each of the first n, of which it is none, and zeros behind them. They serve the whole row.
 pub fn measured(directions: &[i32], i: usize, n: usize) -> [i64; 8]
     requires { ⌜ (n ≤ i) × (i < 8) × (3 * i + 3 ≤ length (now directions)) × AllWithin 1000000000 (now directions) ⌝ }
     ensures { λ r. ⌜ Measured (now (directions .entry)) i n r ⌝ }

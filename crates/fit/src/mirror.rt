@@ -4,6 +4,7 @@ ghost use mathlib.Core.Path.{_≡_};
 ghost use mathlib.Core.Bool.{not};
 ghost use Prim.Native.Nat.{_+_, _*_, _≤_, _<_};
 ghost use lib.Dec.{ltb};
+ghost use lib.IntN.{pos};
 ghost use lib.ListN.{length, getD};
 ghost use Rattle.vectors.specs.Triples.{AllWithin, tripleAt};
 ghost use Rattle.handedness.specs.Handedness.{tripleOf, mirrored};
@@ -14,6 +15,7 @@ ghost use Rattle.fit.specs.Fit.{Turned, Seen, mirroredBy, upright};
 fn turn_of(directions: &[i32], j: usize, k: usize, i: usize) -> i64
     requires { ⌜ (3 * i + 3 ≤ length (now directions)) × AllWithin 1000000000 (now directions) ⌝ }
     ensures { λ r. ⌜ (j < k → k < i → r ≡ tripleOf (tripleAt (now (directions .entry)) j) (tripleAt (now (directions .entry)) k) (tripleAt (now (directions .entry)) i)) ⌝ }
+    ensures { λ r. ⌜ ((j < k → k < i → ⊥) → r ≡ pos 0) ⌝ }
 {
     if k <= j {
         return 0;
@@ -28,7 +30,7 @@ fn turn_of(directions: &[i32], j: usize, k: usize, i: usize) -> i64
     )
 }
 
-// The triple products of direction i with each two before it. They serve all stars of a look along its row.
+// The triple products of direction i with each two before it, and zeros at all other places. They serve all stars of a look along its row.
 pub fn turns(directions: &[i32], i: usize) -> [i64; 64]
     requires { ⌜ (i < 8) × (3 * i + 3 ≤ length (now directions)) × AllWithin 1000000000 (now directions) ⌝ }
     ensures { λ r. ⌜ Turned (now (directions .entry)) i r ⌝ }
@@ -86,7 +88,7 @@ fn upright_beside(
 }
 
 // Whether the star makes no mirror image with any two of the first i words chosen.
-pub fn is_upright(
+pub(crate) fn is_upright(
     stars: &[i32],
     count: usize,
     chosen: &[u16],

@@ -1,5 +1,4 @@
 -- What the two calls on a frame give, on all inputs. Assumes nothing.
-use mathlib.Core.Bool.{cond}
 use mathlib.Core.List.{List, [], _∷_}
 use Prim.Native.Nat.{ℕ, _*_}
 use lib.IntN.{ℤ, pos}
@@ -9,7 +8,7 @@ use Rattle.verdict.specs.Verdict.{verdictOf, kindNumber}
 use Rattle.verdict.specs.declared.Kind.{Kind}
 use Rattle.verdict.specs.declared.Kind.the-variants.{Dark, Beaten, Edge, Lone, Measured}
 use Rattle.verdict.specs.declared.Verdict.{Verdict}
-use Rattle.frame_input.specs.Input.{sizeOut, lengthOut, thresholdOut, firstOver, sampleOut, pixelOut, frameRows, pixelRows}
+use Rattle.frame_input.specs.Input.{frameRows, pixelRows, pixelAnswer}
 use Rattle.frame.specs.Stars.{reportOf, nothing}
 use Rattle.frame.specs.declared.Judgement.{Judgement}
 use Rattle.frame.specs.declared.Judgement.the-variants.{Refused, Judged}
@@ -47,9 +46,4 @@ answerOf (Judged v) = acceptedWith (verdictValues v)
 -- the answer that a pixel of a frame must have
 abbrev pub answerFor : List ℕ → ℕ → ℕ → ℕ → ℕ → ℕ → Answer
 answerFor samples width height threshold row column =
-    cond (sizeOut width height) (refusedWith 1 0)
-    (cond (lengthOut samples width height) (refusedWith 2 0)
-    (cond (thresholdOut threshold) (refusedWith 3 0)
-    (cond (sampleOut samples) (refusedWith 4 (firstOver samples))
-    (cond (pixelOut width height row column) (refusedWith 15 0)
-    (acceptedWith (verdictValues (verdictOf samples width height threshold row column)))))))
+    pixelAnswer samples width height threshold row column (acceptedWith (verdictValues (verdictOf samples width height threshold row column)))

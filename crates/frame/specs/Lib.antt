@@ -3,3 +3,4 @@ pub mod Stars
 pub mod StarsLaws
 pub mod Calls
 pub mod CallsLaws
+pub mod ListingLaws

@@ -1,5 +1,5 @@
 -- The refusals of a call on a frame: 1 to 4, and 15 where it names a pixel. Each row's condition is document 01's sentence. Assumes nothing.
-use mathlib.Core.Bool.{Bool, not, _&&_, _||_}
+use mathlib.Core.Bool.{Bool, not, cond, _&&_, _||_}
 use mathlib.Core.List.{List, [], _∷_, _++_}
 use Prim.Native.Nat.{ℕ, _*_}
 use lib.ListN.{length, getD}
@@ -7,6 +7,7 @@ use lib.Dec.{ltb, leb, eqb}
 use Rattle.counting.specs.First.{first}
 use Rattle.refusal.specs.Numbers as numbers
 use Rattle.refusal.specs.Table.{Row, row, rowAt}
+use Rattle.refusal.specs.Answer.{Answer, refusedWith}
 
 abbrev pub within : ℕ → ℕ → ℕ → Bool
 within least most x = leb least x && leb x most
@@ -45,3 +46,19 @@ frameRows samples width height threshold =
 
 abbrev pub pixelRows : List ℕ → ℕ → ℕ → ℕ → ℕ → ℕ → List Row
 pixelRows samples width height threshold r c = frameRows samples width height threshold ++ (row (pixelOut width height r c) numbers.pixel ∷ [])
+
+-- ---- in document 01's own terms: the refusal that applies, or else the answer that is given
+
+abbrev pub frameAnswer : List ℕ → ℕ → ℕ → ℕ → Answer → Answer
+frameAnswer samples width height threshold given =
+    cond (sizeOut width height) (refusedWith 1 0)
+    (cond (lengthOut samples width height) (refusedWith 2 0)
+    (cond (thresholdOut threshold) (refusedWith 3 0)
+    (cond (sampleOut samples) (refusedWith 4 (firstOver samples))
+    given)))
+
+abbrev pub pixelAnswer : List ℕ → ℕ → ℕ → ℕ → ℕ → ℕ → Answer → Answer
+pixelAnswer samples width height threshold r c given =
+    frameAnswer samples width height threshold
+    (cond (pixelOut width height r c) (refusedWith 15 0)
+    given)

@@ -11,11 +11,13 @@ use borrow.Author.Tests.{lt-ltb, le-ltb, ltb-true, ltb-false, leb-true, leb-fals
 use Rattle.counting.specs.First.{First, first-is, first-of}
 use Rattle.refusal.specs.Numbers as numbers
 use Rattle.refusal.specs.Table.{row, refusalOf, lowest, otherwise}
+use Rattle.refusal.specs.Answer.{acceptedWith, answerOf}
+use Rattle.refusal.specs.AnswerLaws.{answerBy, outcome-by}
 use Rattle.refusal.specs.Laws.{Silent, accepted-silent, lowest-here, lowest-next, lowest-append}
 use Rattle.refusal.specs.declared.Refusal.{Refusal}
 use Rattle.refusal.specs.declared.Outcome.{Outcome}
 use Rattle.refusal.specs.declared.Outcome.the-variants.{Accepted, Refused}
-use Rattle.frame_input.specs.Input.{within, sizeOut, lengthOut, thresholdOut, firstOver, sampleOut, pixelOut, frameRows, pixelRows}
+use Rattle.frame_input.specs.Input.{within, sizeOut, lengthOut, thresholdOut, firstOver, sampleOut, pixelOut, frameRows, pixelRows, frameAnswer, pixelAnswer}
 
 -- ---- tests taken apart
 
@@ -144,3 +146,15 @@ module _ (samples : List ℕ) (width height threshold r c : ℕ) where
       → lowest (pixelRows samples width height threshold r c) ≡ Accepted
   unfolding lowest
   pixel-inside e t = pixel-joined e ∙ lowest-next (row (pixelOut width height r c) numbers.pixel) [] t
+
+-- ---- an outcome that goes by the rows has document 01's number and place
+
+pub frame-told : (samples : List ℕ) (width height threshold : ℕ) {o : Outcome} → o ≡ lowest (frameRows samples width height threshold)
+    → (o ≡ lowest (frameRows samples width height threshold)) × (answerOf o ≡ frameAnswer samples width height threshold (acceptedWith []))
+unfolding answerBy
+frame-told samples width height threshold e = (e, ap answerOf e ∙ outcome-by (frameRows samples width height threshold))
+
+pub pixel-told : (samples : List ℕ) (width height threshold r c : ℕ) {o : Outcome} → o ≡ lowest (pixelRows samples width height threshold r c)
+    → (o ≡ lowest (pixelRows samples width height threshold r c)) × (answerOf o ≡ pixelAnswer samples width height threshold r c (acceptedWith []))
+unfolding answerBy
+pixel-told samples width height threshold r c e = (e, ap answerOf e ∙ outcome-by (pixelRows samples width height threshold r c))

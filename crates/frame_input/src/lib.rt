@@ -1,10 +1,12 @@
 // What a call on a frame asks of its inputs: refusals 1 to 4, and 15 for one pixel. The order of the tests is the order of the numbers.
 ghost use mathlib.Core.Bool.{not};
+ghost use mathlib.Core.List.{[]};
 ghost use mathlib.Core.Path.{_≡_};
 ghost use Prim.Native.Nat.{ℕ, _≤_, _<_};
 ghost use lib.ListN.{length, getD};
 ghost use Rattle.refusal.specs.Table.{lowest};
-ghost use Rattle.frame_input.specs.Input.{within, sizeOut, firstOver, frameRows, pixelRows};
+ghost use Rattle.refusal.specs.Answer.{answerOf, acceptedWith};
+ghost use Rattle.frame_input.specs.Input.{within, sizeOut, firstOver, frameRows, pixelRows, frameAnswer, pixelAnswer};
 use refusal::Outcome;
 
 // The largest sample.
@@ -78,6 +80,7 @@ pub fn size_ok(width: usize, height: usize) -> bool
 // Width and height are tested before their product is formed, so it cannot overflow.
 pub fn frame_outcome(samples: &[u16], width: usize, height: usize, threshold: usize) -> Outcome
     ensures { λ r. ⌜ r ≡ lowest (frameRows (now (samples .entry)) width height threshold) ⌝ }
+    ensures { λ r. ⌜ answerOf r ≡ frameAnswer (now (samples .entry)) width height threshold (acceptedWith []) ⌝ }
 {
     if !size_ok(width, height) {
         return refusal::plain(refusal::SIZE);
@@ -105,6 +108,7 @@ pub fn pixel_outcome(
     column: usize,
 ) -> Outcome
     ensures { λ r. ⌜ r ≡ lowest (pixelRows (now (samples .entry)) width height threshold row column) ⌝ }
+    ensures { λ r. ⌜ answerOf r ≡ pixelAnswer (now (samples .entry)) width height threshold row column (acceptedWith []) ⌝ }
 {
     let outcome = frame_outcome(samples, width, height, threshold);
     match outcome {

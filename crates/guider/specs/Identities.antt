@@ -7,7 +7,7 @@ use native.Mathlib.Omega.{arith}
 use lib.Dec.{eqb, leb}
 use lib.ListN.{getD}
 use Rattle.assignment.specs.Tests.{all}
-use Rattle.assignment.proofs.Tests.{all-same}
+use Rattle.assignment.specs.TestsLaws.{all-same}
 use Rattle.guiding.specs.declared.Guider.{Guider}
 use Rattle.guiding.specs.Guider.{guideAt, dropped}
 use Rattle.guiding.specs.Rule.{onFrame, newIdentity, guideOk}

@@ -9,7 +9,7 @@ use borrow.Author.Tests.{leb-true, le-leb, ltb-true, lt-ltb, le-ltb, eqb-true, e
 use Rattle.counting.specs.Contradiction.{contradiction}
 use Rattle.counting.specs.First.{first, first-is, first-of}
 use Rattle.counting.specs.Number.{number}
-use Rattle.assignment.proofs.Tests.{and-left, and-right, and-both, some-none, none-some, not-of}
+use Rattle.assignment.specs.TestsLaws.{and-left, and-right, and-both, some-none, none-some, not-of}
 use Rattle.centroid.specs.declared.Centroid.{Centroid}
 use Rattle.frame.specs.declared.Report.{Report}
 use Rattle.guiding.specs.declared.Guide.{Guide}

@@ -1,17 +1,12 @@
--- The list that a frame gives always keeps the guider's rule, so the guider never refuses it. Assumes nothing.
+-- The list that a frame gives always keeps the guider's rule, so the guider never refuses it. What is known of the list is the frame's own law. Assumes nothing.
 use mathlib.Core.Bool.{Bool, true, false, cond, not, _||_}
 use mathlib.Core.List.{List}
 use mathlib.Core.Path.{_≡_, refl, _∙_}
-use Prim.Native.Nat.{ℕ, _*_, _≤_}
-use native.Mathlib.Omega.{arith}
-use Rattle.refusal.specs.Table.{refusalOf, lowest}
-use Rattle.refusal.specs.declared.Outcome.{Outcome}
-use Rattle.refusal.specs.declared.Outcome.the-variants.{Accepted, Refused}
-use Rattle.frame_input.specs.Input.{frameRows}
-use Rattle.frame_input.specs.InputLaws.{accepted-valid}
-use Rattle.frame.specs.Stars.{reportOf}
+use Prim.Native.Nat.{ℕ}
+use Rattle.refusal.specs.Table.{refusalOf}
+use Rattle.refusal.specs.declared.Outcome.the-variants.{Accepted}
 use Rattle.frame.specs.Calls.{listingOf}
-use Rattle.frame.specs.CallsLaws.{star-range}
+use Rattle.frame.specs.ListingLaws.{Listed, listing-listed}
 use Rattle.guiding.specs.declared.Guider.{Guider}
 use Rattle.guiding.specs.Rule.{guiderOk}
 use Rattle.guiding.specs.RuleLaws.{ListRule, list-ok}
@@ -19,23 +14,10 @@ use Rattle.guiding.specs.Calls.{guidedOf}
 use Rattle.guiding.specs.AfterLaws.{isAccepted, refused-where}
 
 module _ (samples : List ℕ) (width height threshold : ℕ) where
-  listed-few : (m : ℕ) → reportOf samples width height threshold m .count ≤ 8
-  unfolding reportOf
-  listed-few m = omega arith
-
   pub own-list : ListRule (listingOf samples width height threshold .report)
-  unfolding listingOf
-  own-list = by (lowest (frameRows samples width height threshold)) refl
-    where
-      by : (o : Outcome) → lowest (frameRows samples width height threshold) ≡ o → ListRule (listingOf samples width height threshold .report)
-      by (Refused x) e = rw e (record { few = omega arith; places = λ k h. absurd (omega arith) })
-      by Accepted e =
-          let v = accepted-valid samples width height threshold e in
-          rw e
-          (record {
-            few = listed-few (height * width);
-            places = λ k h. let s = star-range samples width height threshold (height * width) (v .wide .1) (v .high .1) k h in record { across = s .0; down = s .1 };
-          })
+  own-list =
+      let l = listing-listed samples width height threshold in
+      record { few = l .few; places = λ k h. record { across = l .across k; down = l .down k } }
 
   -- a guider that keeps the rule takes every frame
   pub own-frame : (g : Guider) → guiderOk g ≡ true → guidedOf g (listingOf samples width height threshold) .outcome ≡ Accepted

@@ -6,7 +6,7 @@ use native.Mathlib.Decide.{decLt}
 use native.Mathlib.Omega.{arith}
 use lib.Dec.{eqb, leb}
 use borrow.Author.Tests.{leb-true, le-leb, eqb-false, ne-eqb, not-true}
-use Rattle.assignment.proofs.Tests.{all-true, all-of, and-left, and-right, and-both}
+use Rattle.assignment.specs.TestsLaws.{all-true, all-of, and-left, and-right, and-both}
 use Rattle.frame.specs.declared.Report.{Report}
 use Rattle.guiding.specs.declared.Guider.{Guider}
 use Rattle.guiding.specs.Guider.{guideAt, starAt}

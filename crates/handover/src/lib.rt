@@ -77,7 +77,7 @@ pub fn of_count(n: usize) -> [i64; 64]
 }
 
 // A vector's numbers from a place on.
-pub fn put_vector(flat: [i64; 64], at: usize, v: Vec3) -> [i64; 64]
+fn put_vector(flat: [i64; 64], at: usize, v: Vec3) -> [i64; 64]
     requires { ⌜ at ≤ 61 ⌝ }
     ensures { λ r. ⌜ r ≡ withVector flat at v ⌝ }
 {

@@ -23,7 +23,7 @@ pub enum Built {
 }
 
 // How many records the index has.
-pub fn count(stars: &[i32], floor: i64) -> usize
+fn count(stars: &[i32], floor: i64) -> usize
     requires { ⌜ Listed 512 (now stars) ⌝ }
     ensures { λ r. ⌜ (r ≡ length (keysOf (now (stars .entry)) floor)) × (r ≤ 262144) ⌝ }
 {
@@ -31,7 +31,7 @@ pub fn count(stars: &[i32], floor: i64) -> usize
 }
 
 // Writes the index at the front of the room, which is long enough. How many records it has.
-pub fn write(stars: &[i32], floor: i64, room: &mut [u8]) -> usize
+fn write(stars: &[i32], floor: i64, room: &mut [u8]) -> usize
     requires { ⌜ Listed 512 (now stars) ⌝ }
     requires { ⌜ 12 * length (keysOf (now stars) floor) ≤ length (now room) ⌝ }
     ensures { λ r. ⌜ r ≡ length (keysOf (now (stars .entry)) floor) ⌝ }

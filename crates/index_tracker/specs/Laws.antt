@@ -13,7 +13,7 @@ use Rattle.refusal.specs.Numbers as number
 use Rattle.refusal.specs.Table.{refusalOf, lowest, answered, otherwise}
 use Rattle.refusal.specs.Laws.{lowest-here, lowest-append, otherwise-accepted, Every, every-append, lowest-every}
 use Rattle.frame_input.specs.Input.{frameRows}
-use Rattle.frame.specs.Calls.{listingOf}
+use Rattle.frame.specs.ListingLaws.{listing-outcome}
 use Rattle.catalogue.specs.Check as catalogue
 use Rattle.catalogue.specs.Check.{refusalsOf as catalogueRows}
 use Rattle.catalogue.specs.Stars.{starsOf}
@@ -64,13 +64,14 @@ module _ (c : Call) where
 
   -- the first of the four parts that refuses
   pub refusals-joined : lowest (refusalsOf c) ≡ otherwise (listed (c .chain) .outcome) (otherwise (lowest (settingsRows (c .chain .settings))) (otherwise stars demand))
-  unfolding refusalsOf listingOf
+  unfolding refusalsOf
   refusals-joined =
       let s = c .chain .settings in
       let f = frameRows (c .chain .samples) (s .width) (s .height) (s .threshold) in
       let k = starsRows (c .chain .catalogue) (c .index) (c .floor) in
       let d = demandRows s (length (c .chain .room)) (listed (c .chain) .report .count) in
-      lowest-append f (settingsRows s ++ (k ++ d)) ∙ ap (otherwise (lowest f)) (lowest-append (settingsRows s) (k ++ d) ∙ ap (otherwise (lowest (settingsRows s))) (lowest-append k d))
+      rw (listing-outcome (c .chain .samples) (s .width) (s .height) (s .threshold))
+      (lowest-append f (settingsRows s ++ (k ++ d)) ∙ ap (otherwise (lowest f)) (lowest-append (settingsRows s) (k ++ d) ∙ ap (otherwise (lowest (settingsRows s))) (lowest-append k d)))
 
   -- with the right index the refusals are the plain chain's
   test-refusals : isIndex (starsOf (c .chain .catalogue)) (c .floor) (c .index) ≡ true → lowest (refusalsOf c) ≡ lowest (plain.refusalsOf (c .chain))

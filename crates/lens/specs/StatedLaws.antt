@@ -40,9 +40,10 @@ module _ (n : ℕ) (h : n < 2 ^ 53) where
   unfolding settingsLens
   ok-is = pixels-ok (pixels n) ∙ range-of (pixels n) n 256 (settings-exact n h) (lit< tt)
 
-  number-is : focalNumber (settingsLens n) ≡ n
+  -- F comes back, in range or not
+  pub settings-whole : focalNumber (settingsLens n) ≡ n
   unfolding settingsLens focalNumber
-  number-is =
+  settings-whole =
       whole-of (pixels n) n 256 (settings-exact n h) (lit< tt)
       ∙ ap (λ (x : ℕ). x / 256) (mul-comm 256 n)
       ∙ mul-div-cancel n (lit< tt)
@@ -56,7 +57,7 @@ module _ (n : ℕ) (a : 16384 ≤ n) (b : n ≤ 4194304) where
   settings-ok = ok-is n small ∙ (λ i. le-leb (16384 * 256) (256 * n) (omega arith) i && lt-ltb (256 * n) (4194305 * 256) (omega arith) i)
 
   pub settings-number : focalNumber (settingsLens n) ≡ n
-  settings-number = number-is n small
+  settings-number = settings-whole n small
 
   pub settings-back : focalOf (settingsLens n) ≡ Whole (pos n)
   settings-back = lens-in (settingsLens n) settings-ok ∙ ap (λ (k : ℕ). Whole (pos k)) settings-number

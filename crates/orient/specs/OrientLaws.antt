@@ -12,7 +12,7 @@ use Rattle.counting.specs.Contradiction.{contradiction}
 use Rattle.counting.specs.First.{First, first, first-is}
 use Rattle.assignment.specs.Order.{at}
 use Rattle.assignment.specs.Problem.{one, assigned}
-use Rattle.assignment.proofs.Tests.{and-left, and-right}
+use Rattle.assignment.specs.TestsLaws.{and-left, and-right}
 use Rattle.orient.specs.Orient.{assignedFrom, firstAssigned, secondAssigned}
 
 module _ (words : List ℕ) (stars directions : ℕ) where

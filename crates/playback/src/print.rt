@@ -1,5 +1,7 @@
 // Lines of numbers on standard output.
+ghost use mathlib.Core.Path.{_≡_};
 ghost use Prim.Native.Nat.{_<_};
+ghost use Rattle.playback.specs.Sum.{sumOf};
 use libc::STDOUT_FILENO;
 
 fn print_space() {
@@ -59,13 +61,15 @@ pub fn print_end() {
 }
 
 fn wide(x: u16) -> u64
-    ensures { λ r. ⌜ r < 65536 ⌝ }
+    ensures { λ r. ⌜ (r ≡ x) × (r < 65536) ⌝ }
 {
     x as u64
 }
 
 // A sum that tells rooms apart.
-pub fn checksum(room: &[u16]) -> u64 {
+pub fn checksum(room: &[u16]) -> u64
+    ensures { λ r. ⌜ r ≡ sumOf (now (room .entry)) ⌝ }
+{
     let mut sum: u64 = 0;
     let mut i: usize = 0;
     while i < room.len() {
@@ -76,13 +80,15 @@ pub fn checksum(room: &[u16]) -> u64 {
 }
 
 fn byte(x: u8) -> u64
-    ensures { λ r. ⌜ r < 256 ⌝ }
+    ensures { λ r. ⌜ (r ≡ x) × (r < 256) ⌝ }
 {
     x as u64
 }
 
 // The same of a room of bytes.
-pub fn bytes_checksum(room: &[u8]) -> u64 {
+pub fn bytes_checksum(room: &[u8]) -> u64
+    ensures { λ r. ⌜ r ≡ sumOf (now (room .entry)) ⌝ }
+{
     let mut sum: u64 = 0;
     let mut i: usize = 0;
     while i < room.len() {

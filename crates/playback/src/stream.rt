@@ -1,6 +1,8 @@
 // Numbers and buffers read from a file, high byte first.
+ghost use mathlib.Core.Path.{_≡_};
 ghost use Prim.Native.Nat.{_≤_, _<_};
-ghost use lib.ListN.{length};
+ghost use lib.ListN.{length, drop};
+ghost use Rattle.playback.specs.Half.{signedHalf};
 
 fn wide(x: u8) -> u64
     ensures { λ r. ⌜ r < 256 ⌝ }
@@ -143,6 +145,7 @@ fn least(a: usize, b: usize) -> usize
 // The numbers of two bytes each, at the start of the room.
 fn words(bytes: &[u8], room: &mut [u16]) -> usize
     ensures { λ r. ⌜ r ≤ length (now (room .exit)) ⌝ }
+    ensures { λ r. ⌜ drop r (now (room .exit)) ≡ drop r (now (room .entry)) ⌝ }
 {
     let count = least(bytes.len() / 2, room.len());
     let mut i: usize = 0;
@@ -154,7 +157,9 @@ fn words(bytes: &[u8], room: &mut [u16]) -> usize
 }
 
 // The number of 4 bytes, signed.
-pub fn signed_half(n: u64) -> i32 {
+pub fn signed_half(n: u64) -> i32
+    ensures { λ r. ⌜ r ≡ signedHalf n ⌝ }
+{
     let half = n % 0x1_0000_0000;
     if half < 0x8000_0000 {
         half as i32
@@ -166,6 +171,7 @@ pub fn signed_half(n: u64) -> i32 {
 // The signed numbers of 4 bytes each, at the start of the room.
 fn halves(bytes: &[u8], room: &mut [i32]) -> usize
     ensures { λ r. ⌜ r ≤ length (now (room .exit)) ⌝ }
+    ensures { λ r. ⌜ drop r (now (room .exit)) ≡ drop r (now (room .entry)) ⌝ }
 {
     let count = least(bytes.len() / 4, room.len());
     let mut i: usize = 0;
@@ -179,6 +185,7 @@ fn halves(bytes: &[u8], room: &mut [i32]) -> usize
 // The signed numbers of 8 bytes each, at the start of the room.
 fn wholes(bytes: &[u8], room: &mut [i64]) -> usize
     ensures { λ r. ⌜ r ≤ length (now (room .exit)) ⌝ }
+    ensures { λ r. ⌜ drop r (now (room .exit)) ≡ drop r (now (room .entry)) ⌝ }
 {
     let count = least(bytes.len() / 8, room.len());
     let mut i: usize = 0;
@@ -192,6 +199,7 @@ fn wholes(bytes: &[u8], room: &mut [i64]) -> usize
 // The floats whose bits are 8 bytes each, at the start of the room.
 fn doubles(bytes: &[u8], room: &mut [f64]) -> usize
     ensures { λ r. ⌜ r ≤ length (now (room .exit)) ⌝ }
+    ensures { λ r. ⌜ drop r (now (room .exit)) ≡ drop r (now (room .entry)) ⌝ }
 {
     let count = least(bytes.len() / 8, room.len());
     let mut i: usize = 0;
@@ -205,6 +213,7 @@ fn doubles(bytes: &[u8], room: &mut [f64]) -> usize
 // Reads a buffer of samples or of ranking words, and answers how many it has. `bytes` is room to expand it in.
 pub fn read_words(fd: i32, bytes: &mut [u8], room: &mut [u16]) -> usize
     ensures { λ r. ⌜ r ≤ length (now (room .exit)) ⌝ }
+    ensures { λ r. ⌜ drop r (now (room .exit)) ≡ drop r (now (room .entry)) ⌝ }
 {
     let size = expand(fd, 2, bytes);
     words(&bytes[0..size], room)
@@ -213,6 +222,7 @@ pub fn read_words(fd: i32, bytes: &mut [u8], room: &mut [u16]) -> usize
 // Reads a buffer of directions.
 pub fn read_directions(fd: i32, bytes: &mut [u8], room: &mut [i32]) -> usize
     ensures { λ r. ⌜ r ≤ length (now (room .exit)) ⌝ }
+    ensures { λ r. ⌜ drop r (now (room .exit)) ≡ drop r (now (room .entry)) ⌝ }
 {
     let size = expand(fd, 4, bytes);
     halves(&bytes[0..size], room)
@@ -221,6 +231,7 @@ pub fn read_directions(fd: i32, bytes: &mut [u8], room: &mut [i32]) -> usize
 // Reads a buffer of the attitude's numbers, or of a matrix.
 pub fn read_wholes(fd: i32, bytes: &mut [u8], room: &mut [i64]) -> usize
     ensures { λ r. ⌜ r ≤ length (now (room .exit)) ⌝ }
+    ensures { λ r. ⌜ drop r (now (room .exit)) ≡ drop r (now (room .entry)) ⌝ }
 {
     let size = expand(fd, 8, bytes);
     wholes(&bytes[0..size], room)
@@ -229,6 +240,7 @@ pub fn read_wholes(fd: i32, bytes: &mut [u8], room: &mut [i64]) -> usize
 // Reads a buffer of floats.
 pub fn read_floats(fd: i32, bytes: &mut [u8], room: &mut [f64]) -> usize
     ensures { λ r. ⌜ r ≤ length (now (room .exit)) ⌝ }
+    ensures { λ r. ⌜ drop r (now (room .exit)) ≡ drop r (now (room .entry)) ⌝ }
 {
     let size = expand(fd, 8, bytes);
     doubles(&bytes[0..size], room)

@@ -1,15 +1,18 @@
 -- The reason is the true one: its kind is the verdict's on every input, and what it names did decide. Assumes nothing.
 use mathlib.Core.Bool.{Bool, true, false, cond, _||_}
 use mathlib.Core.Path.{_≡_, refl, sym, ap, _∙_}
-use mathlib.Core.List.{List}
+use mathlib.Core.List.{List, [], _∷_, _++_}
 use Prim.Native.Nat.{ℕ, _+_, _-_, _≤_, _<_}
 use native.Mathlib.Omega.{arith}
 use lib.Dec.{ltb}
+use lib.IntN.{pos}
+use lib.ListN.{take, replicate}
 use borrow.Author.Tests.{ltb-true, ltb-false}
 use Rattle.counting.specs.Contradiction.{contradiction}
 use Rattle.refusal.specs.declared.Outcome.{Outcome}
 use Rattle.refusal.specs.declared.Outcome.the-variants as outcomes
 use Rattle.refusal.specs.Table.{lowest, answered}
+use Rattle.refusal.specs.AnswerLaws.{answerBy, answered-by}
 use Rattle.window.specs.declared.Beating.{Beating}
 use Rattle.window.specs.declared.Beating.the-variants.{At, Nothing}
 use Rattle.window.specs.Window.{at, beaten, firstBeating}
@@ -33,7 +36,7 @@ use Rattle.reason.specs.declared.Reason.the-variants.{Dark, Beaten, Edge
 use Rattle.reason.specs.declared.Explanation.{Explanation}
 use Rattle.reason.specs.declared.Explanation.the-variants.{Refused, Given}
 use Rattle.reason.specs.Side.{sideNumber, firstSide}
-use Rattle.reason.specs.Reason.{peakReason, unlessBeaten, reasonOf, explanationOf, kindIn}
+use Rattle.reason.specs.Reason.{peakReason, unlessBeaten, reasonOf, explanationOf, kindIn, valuesIn, namedBy, answerOf, answerFor}
 
 -- ---- the kind is the verdict's
 
@@ -223,3 +226,23 @@ module _ (samples : List ℕ) (width height threshold row column : ℕ) where
   -- the centroid of its window
   pub measured-says : (c : Centroid) → reasonOf samples width height threshold row column ≡ Measured c → MeasuredAs samples width height threshold row column c
   measured-says c e = measured-as samples width height threshold row column c (sym (kind-is samples width height threshold row column) ∙ ap kindIn e)
+
+-- ---- in document 01's terms
+
+pub told : (samples : List ℕ) (width height threshold row column : ℕ) {e : Explanation} → e ≡ explanationOf samples width height threshold row column
+    → (e ≡ explanationOf samples width height threshold row column) × (answerOf e ≡ answerFor samples width height threshold row column)
+unfolding explanationOf answerBy
+told samples width height threshold row column p = (
+  p,
+  ap (λ (e : Explanation). answerOf e) p
+      ∙ answered-by Refused (Given (reasonOf samples width height threshold row column)) answerOf _ (λ r. refl) refl (pixelRows samples width height threshold row column),
+)
+
+-- the three numbers that C is handed are what the reason names, and zeros behind
+pub values-named : (reason : Reason)
+    → pos (valuesIn reason .first) ∷ (pos (valuesIn reason .second) ∷ (pos (valuesIn reason .third) ∷ [])) ≡ take 3 (namedBy reason ++ replicate 3 (pos 0))
+values-named (Dark sample threshold) = refl
+values-named (Beaten r c) = refl
+values-named (Edge side) = refl
+values-named (Lone largest) = refl
+values-named (Measured c) = refl

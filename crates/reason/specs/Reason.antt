@@ -1,8 +1,10 @@
 -- Request T-01: why a pixel is not a star, with T-06's lone. Assumes nothing.
 use mathlib.Core.Bool.{cond}
-use mathlib.Core.List.{List}
+use mathlib.Core.List.{List, [], _∷_}
 use Prim.Native.Nat.{ℕ}
+use lib.IntN.{ℤ, pos}
 use Rattle.refusal.specs.Table.{lowest, answered}
+use Rattle.refusal.specs.Answer.{Answer, refusedWith, acceptedWith}
 use Rattle.window.specs.declared.Beating.{Beating}
 use Rattle.window.specs.declared.Beating.the-variants.{At, Nothing}
 use Rattle.window.specs.Window.{at, firstBeating}
@@ -11,7 +13,7 @@ use Rattle.centroid.specs.Centroid.{centroidOf}
 use Rattle.verdict.specs.declared.Kind.{Kind}
 use Rattle.verdict.specs.declared.Kind.the-variants as kinds
 use Rattle.verdict.specs.Verdict.{dark, edge, kindNumber}
-use Rattle.frame_input.specs.Input.{pixelRows}
+use Rattle.frame_input.specs.Input.{pixelRows, pixelAnswer}
 use Rattle.reason.specs.declared.Reason.{Reason}
 use Rattle.reason.specs.declared.Reason.the-variants.{Dark, Beaten, Edge, Lone, Measured}
 use Rattle.reason.specs.declared.Explanation.{Explanation}
@@ -65,3 +67,24 @@ valuesIn (Beaten r c) = three r c 0
 valuesIn (Edge side) = three (sideNumber side) 0 0
 valuesIn (Lone largest) = three largest 0 0
 valuesIn (Measured c) = three (c .x) (c .y) (c .brightness)
+
+-- ---- the answer in document 01's own terms: the kind's number, and what the reason names
+
+abbrev pub namedBy : Reason → List ℤ
+namedBy (Dark sample threshold) = pos sample ∷ (pos threshold ∷ [])
+namedBy (Beaten r c) = pos r ∷ (pos c ∷ [])
+namedBy (Edge side) = pos (sideNumber side) ∷ []
+namedBy (Lone largest) = pos largest ∷ []
+namedBy (Measured c) = pos (c .x) ∷ (pos (c .y) ∷ (pos (c .brightness) ∷ []))
+
+abbrev pub reasonValues : Reason → List ℤ
+reasonValues reason = pos (reasonNumber reason) ∷ namedBy reason
+
+abbrev pub answerOf : Explanation → Answer
+answerOf (Refused r) = refusedWith (r .number) (r .place)
+answerOf (Given reason) = acceptedWith (reasonValues reason)
+
+-- the answer that a pixel of a frame must have
+abbrev pub answerFor : List ℕ → ℕ → ℕ → ℕ → ℕ → ℕ → Answer
+answerFor samples width height threshold row column =
+    pixelAnswer samples width height threshold row column (acceptedWith (reasonValues (reasonOf samples width height threshold row column)))

@@ -5,7 +5,7 @@ ghost use Prim.Native.Nat.{_*_, _<_, _≤_};
 ghost use lib.ListN.{length};
 ghost use Rattle.window.specs.Window.{beaten};
 ghost use Rattle.reason.specs.Side.{firstSide, sideNumber};
-ghost use Rattle.reason.specs.Reason.{peakReason, reasonOf, explanationOf, kindIn, reasonNumber, valuesIn};
+ghost use Rattle.reason.specs.Reason.{peakReason, reasonOf, explanationOf, kindIn, reasonNumber, valuesIn, answerOf, answerFor};
 use centroid::Centroid;
 use refusal::Outcome;
 use refusal::Refusal;
@@ -178,6 +178,7 @@ pub fn explain(
     column: usize,
 ) -> Explanation
     ensures { λ r. ⌜ r ≡ explanationOf (now (samples .entry)) width height threshold row column ⌝ }
+    ensures { λ r. ⌜ answerOf r ≡ answerFor (now (samples .entry)) width height threshold row column ⌝ }
 {
     let outcome = frame_input::pixel_outcome(samples, width, height, threshold, row, column);
     match outcome {

@@ -3,6 +3,7 @@ use mathlib.Core.Bool.{Bool, true, cond, _&&_}
 use mathlib.Core.List.{List, [], _∷_}
 use Prim.Native.Nat.{ℕ, _+_, _-_, _*_}
 use lib.Dec.{ltb, leb}
+use lib.IntN.{ℤ, pos}
 use lib.ListN.{length}
 use Rattle.text.specs.declared.parse.Parsed.{Parsed}
 use Rattle.text.specs.declared.parse.Parsed.the-variants.{Number, NoNumber}
@@ -30,3 +31,16 @@ parsedFrom v bytes =
 
 unfoldable pub parsedOf : List ℕ → Parsed
 parsedOf word = cond (ltb 0 (length word)) (parsedFrom 0 word) NoNumber
+
+-- ---- as values: the number, or none; the papers have no number for a word that is none
+
+abbrev pub numbersOf : Parsed → List ℤ
+numbersOf (Number n) = pos n ∷ []
+numbersOf NoNumber = []
+
+-- at least one digit, digits only, and a value of 64 bits
+abbrev pub spells : List ℕ → Bool
+spells word = ltb 0 (length word) && (allDigits word && ltb (valueOf word) 18446744073709551616)
+
+abbrev pub numbersFor : List ℕ → List ℤ
+numbersFor word = cond (spells word) (pos (valueOf word) ∷ []) []

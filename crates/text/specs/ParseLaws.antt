@@ -8,6 +8,7 @@ use native.Mathlib.Decide.{decLt}
 use native.Mathlib.Numerals.{add-one}
 use borrow.Author.Tests.{lt-ltb, le-ltb, le-leb, lt-leb}
 use lib.Dec.{ltb, leb}
+use lib.IntN.{ℤ, pos}
 use lib.ListN.{length, drop, getD, drop-of-length-le}
 use lib.Seq.{drop-cons}
 use Rattle.counting.specs.Contradiction.{contradiction}
@@ -15,7 +16,7 @@ use Rattle.text.specs.declared.parse.Parsed.{Parsed}
 use Rattle.text.specs.declared.parse.Parsed.the-variants.{Number, NoNumber}
 use Rattle.text.specs.Decimal.{decimal}
 use Rattle.text.specs.DecimalLaws.{IsDecimal, is-decimal}
-use Rattle.text.specs.Parse.{isDigit, allDigits, valueFrom, valueOf, parsedFrom, parsedOf}
+use Rattle.text.specs.Parse.{isDigit, allDigits, valueFrom, valueOf, parsedFrom, parsedOf, numbersOf, numbersFor}
 
 -- ---- digit by digit
 
@@ -138,3 +139,14 @@ zero-in-front word h =
     parsed-some (48 ∷ word) (omega arith)
     ∙ parsed-digit 0 48 word (digit-is 48 (omega arith) (omega arith))
     ∙ sym (parsed-some word h)
+
+-- ---- as values
+
+pub told : (word : List ℕ) {p : Parsed} → p ≡ parsedOf word → (p ≡ parsedOf word) × (numbersOf p ≡ numbersFor word)
+unfolding parsedOf parsedFrom
+told word e = (e, ap (λ (p : Parsed). numbersOf p) e ∙ by (ltb 0 (length word)) (allDigits word && ltb (valueOf word) 18446744073709551616))
+  where
+    by : (a b : Bool) → numbersOf (cond a (cond b (Number (valueOf word)) NoNumber) NoNumber) ≡ cond (a && b) (pos (valueOf word) ∷ []) []
+    by true true = refl
+    by true false = refl
+    by false b = refl

@@ -1,7 +1,7 @@
 // A word as a number.
 ghost use mathlib.Core.Path.{_≡_};
 ghost use mathlib.Core.List.{[], _∷_};
-ghost use Rattle.text.specs.Parse.{parsedFrom, parsedOf};
+ghost use Rattle.text.specs.Parse.{parsedFrom, parsedOf, numbersOf, numbersFor};
 
 pub enum Parsed {
     Number(usize),
@@ -30,6 +30,7 @@ fn with_digit(value: usize, byte: u8) -> Parsed
 // The number that a word spells in decimal. An empty word, one with another character and one whose value does not fit are no number.
 pub fn parse_number(word: &[u8]) -> Parsed
     ensures { λ r. ⌜ r ≡ parsedOf (now (word .entry)) ⌝ }
+    ensures { λ r. ⌜ numbersOf r ≡ numbersFor (now (word .entry)) ⌝ }
 {
     if word.len() == 0 {
         return Parsed::NoNumber;

@@ -2,7 +2,7 @@
 use crate::parse::Parsed;
 use crate::parse::parse_number;
 ghost use mathlib.Core.Path.{_≡_};
-ghost use Rattle.text.specs.Sign.{positiveOf, negativeOf, signedOf};
+ghost use Rattle.text.specs.Sign.{positiveOf, negativeOf, signedOf, numbersOf, numbersFor};
 
 pub enum Signed {
     Number(i64),
@@ -44,6 +44,7 @@ fn negative(size: Parsed) -> Signed
 // The signed number that a word spells in decimal, with a "-" in front where it is below zero.
 pub fn parse_signed(word: &[u8]) -> Signed
     ensures { λ r. ⌜ r ≡ signedOf (now (word .entry)) ⌝ }
+    ensures { λ r. ⌜ numbersOf r ≡ numbersFor (now (word .entry)) ⌝ }
 {
     if word.len() == 0 {
         return Signed::NoNumber;

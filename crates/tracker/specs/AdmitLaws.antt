@@ -11,7 +11,7 @@ use Rattle.refusal.specs.Numbers as number
 use Rattle.refusal.specs.Table.{refusalOf, lowest, otherwise}
 use Rattle.refusal.specs.Laws.{lowest-append}
 use Rattle.frame_input.specs.Input.{frameRows}
-use Rattle.frame.specs.Calls.{listingOf}
+use Rattle.frame.specs.ListingLaws.{listing-outcome}
 use Rattle.lens.specs.Lens.{lensOk}
 use Rattle.direction.specs.Settings.{positionOk}
 use Rattle.catalogue.specs.Check as catalogue
@@ -51,10 +51,11 @@ module _ (s : Settings) where
 
 -- the first of the four parts that refuses
 pub refusals-joined : (c : Call) → lowest (refusalsOf c) ≡ otherwise (listed c .outcome) (otherwise (lowest (settingsRows (c .settings))) (otherwise (lowest (catalogue.refusalsOf (c .catalogue))) (lowest (demandRows (c .settings) (length (c .room)) (listed c .report .count)))))
-unfolding refusalsOf listingOf
+unfolding refusalsOf
 refusals-joined c =
     let s = c .settings in
     let f = frameRows (c .samples) (s .width) (s .height) (s .threshold) in
     let k = catalogue.refusalsOf (c .catalogue) in
     let d = demandRows s (length (c .room)) (listed c .report .count) in
-    lowest-append f (settingsRows s ++ (k ++ d)) ∙ ap (otherwise (lowest f)) (lowest-append (settingsRows s) (k ++ d) ∙ ap (otherwise (lowest (settingsRows s))) (lowest-append k d))
+    rw (listing-outcome (c .samples) (s .width) (s .height) (s .threshold))
+    (lowest-append f (settingsRows s ++ (k ++ d)) ∙ ap (otherwise (lowest f)) (lowest-append (settingsRows s) (k ++ d) ∙ ap (otherwise (lowest (settingsRows s))) (lowest-append k d)))

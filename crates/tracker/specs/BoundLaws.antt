@@ -19,7 +19,7 @@ use Rattle.vectors.specs.Vectors.{Within3}
 use Rattle.frame.specs.declared.Report.{Report}
 use Rattle.frame_input.specs.Input.{sizeOut, lengthOut, firstOver, frameRows}
 use Rattle.frame_input.specs.InputLaws.{size-most}
-use Rattle.frame.specs.Calls.{listingOf}
+use Rattle.frame.specs.ListingLaws.{listing-outcome}
 use Rattle.catalogue.specs.Check as catalogue
 use Rattle.catalogue.specs.Check.{lengthOk, brokenOf, refusalsOf as catalogueRows}
 use Rattle.catalogue.specs.Format.{recordsIn}
@@ -85,11 +85,11 @@ catalogue-low bytes =
     (λ _. none-low))
 
 rows-low : (c : Call) → Low (lowest (refusalsOf c))
-unfolding listingOf settingsRows demandRows
+unfolding settingsRows demandRows
 rows-low c =
     let s = c .settings in
     subst Low (sym (refusals-joined c))
-    (otherwise-low _ _ (frame-low (c .samples) (s .width) (s .height) (s .threshold))
+    (otherwise-low (listed c .outcome) _ (rw (listing-outcome (c .samples) (s .width) (s .height) (s .threshold)) (frame-low (c .samples) (s .width) (s .height) (s .threshold)))
     (otherwise-low _ _ (plain-low _ 19 _ (omega arith) (plain-low _ 5 [] (omega arith) none-low))
     (otherwise-low _ _ (catalogue-low (c .catalogue))
     (plain-low _ 9 _ (omega arith) (plain-low _ 10 _ (omega arith) (plain-low _ 12 [] (omega arith) none-low))))))

@@ -2,6 +2,8 @@
 pub mod Sight
 pub mod SightLaws
 pub mod Chain
+pub mod Admit
+pub mod ToldLaws
 pub mod Ready
 pub mod AdmitLaws
 pub mod ChainLaws

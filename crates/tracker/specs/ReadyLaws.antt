@@ -1,25 +1,21 @@
 -- Where none of 1 to 12 and 19 applies, the steps behind the frame's list have what they ask for; and no other number is given before them. Assumes nothing.
 use mathlib.Core.Bool.{Bool, true, false, not, _&&_, _||_, and-eq-true-iff}
-use mathlib.Core.Path.{_≡_, refl, sym, ap, _∙_, subst}
+use mathlib.Core.Path.{_≡_, refl, sym, ap, _∙_}
 use mathlib.Core.List.{List, [], _∷_, _++_}
-use Prim.Native.Nat.{ℕ, zero, suc, _+_, _*_, _≤_, _<_, min, zero-le}
-use native.Mathlib.Decide.{decLt}
-use native.Mathlib.Omega.{arith}
+use Prim.Native.Nat.{ℕ, _≤_}
 use borrow.Author.Tests.{not-false, leb-true, ltb-false}
 use lib.Dec.{leb, ltb, eqb}
-use lib.ListN.{length, take, replicate, getD, length-take, length-append, length-replicate, List·getD-eq-default}
+use lib.ListN.{length}
 use Rattle.counting.specs.Contradiction.{contradiction}
 use Rattle.refusal.specs.declared.Refusal.{Refusal}
 use Rattle.refusal.specs.declared.Outcome.{Outcome}
 use Rattle.refusal.specs.declared.Outcome.the-variants.{Accepted, Refused}
-use Rattle.refusal.specs.Table.{Row, lowest, answered, otherwise}
+use Rattle.refusal.specs.Table.{Row, lowest, otherwise}
 use Rattle.refusal.specs.Laws.{Silent, accepted-silent, otherwise-accepted, Every, every-append, lowest-every}
 use Rattle.frame.specs.declared.Report.{Report}
 use Rattle.frame_input.specs.Input.{frameRows}
-use Rattle.frame_input.specs.InputLaws as input
-use Rattle.frame.specs.Stars.{nought, nothing, measuredOf, firstEight, reportOf, numberOf, isMeasured}
 use Rattle.frame.specs.Calls.{listingOf}
-use Rattle.frame.specs.CallsLaws.{star-range, zeros-behind}
+use Rattle.frame.specs.ListingLaws.{Listed, listing-listed}
 use Rattle.catalogue.specs.Check as catalogue
 use Rattle.catalogue.specs.Check.{refusalsOf as catalogueRows}
 use Rattle.catalogue.specs.CheckLaws.{accepted-valid}
@@ -32,61 +28,16 @@ use Rattle.tracker.specs.Ready.{Ready}
 
 -- ---- a report's stars
 
-noughts : (n k : ℕ) → getD (replicate n nought) k nought ≡ nought
-noughts zero k = refl
-noughts (suc n) zero = refl
-noughts (suc n) (suc k) = noughts n k
-
-module _ (samples : List ℕ) (width height threshold : ℕ) (w : width ≤ 1024) (h : height ≤ 1024) where
-  abbrev report : Report
-  report = reportOf samples width height threshold (height * width)
-
-  pub report-size : length (report .stars) ≡ 8
-  unfolding reportOf
-  report-size =
-      let stars = measuredOf samples width height threshold (height * width) in
-      omega (arith, length-take 8 (stars ++ replicate 8 nought), length-append stars (replicate 8 nought), length-replicate 8 nought)
-
-  pub report-few : report .count ≤ 8
-  unfolding reportOf
-  report-few = omega arith
-
-  pub report-placed : AllInFrame (report .stars)
-  report-placed = record { at = λ k. by k (decLt k (report .count)) (decLt k 8) }
-    where
-      nowhere-in : InFrame nought
-      nowhere-in = record { across = zero-le; down = zero-le }
-
-      by : (k : ℕ) → Dec (k < report .count) → Dec (k < 8) → InFrame (getD (report .stars) k nought)
-      by k (yes l) d = let r = star-range samples width height threshold (height * width) w h k l in record { across = r .0; down = r .1 }
-      by k (no l) (yes d) = subst InFrame (sym (zeros-behind samples width height threshold (height * width) k (omega arith) d)) nowhere-in
-      by k (no l) (no d) = subst InFrame (sym (List·getD-eq-default (report .stars) nought (omega (arith, report-size)))) nowhere-in
-
--- the same of what any call on a frame reports, refused ones too
+-- what any call on a frame reports, refused ones too: by the frame's own law
 pub record Sighted (report : Report) : Type 0 where
   pub few : report .count ≤ 8
   pub placed : AllInFrame (report .stars)
   pub size : length (report .stars) ≡ 8
 
-nothing-sighted : Sighted nothing
-nothing-sighted = record { few = omega arith; placed = record { at = by }; size = refl }
-  where
-    by : (k : ℕ) → InFrame (getD (nothing .stars) k nought)
-    by k = subst InFrame (sym (noughts 8 k)) (record { across = zero-le; down = zero-le })
-
 pub listing-sighted : (samples : List ℕ) (width height threshold : ℕ) → Sighted (listingOf samples width height threshold .report)
-unfolding listingOf
-listing-sighted samples width height threshold = by (lowest (frameRows samples width height threshold)) refl
-  where
-    by : (o : Outcome) → lowest (frameRows samples width height threshold) ≡ o → Sighted (answered (λ r. nothing) (reportOf samples width height threshold (height * width)) o)
-    by (Refused r) e = nothing-sighted
-    by Accepted e =
-        let v = input.accepted-valid samples width height threshold e in
-        record {
-          few = report-few samples width height threshold (v .wide .1) (v .high .1);
-          placed = report-placed samples width height threshold (v .wide .1) (v .high .1);
-          size = report-size samples width height threshold (v .wide .1) (v .high .1);
-        }
+listing-sighted samples width height threshold =
+    let l = listing-listed samples width height threshold in
+    record { few = l .few; placed = record { at = λ k. record { across = l .across k; down = l .down k } }; size = l .size }
 
 -- ---- the demand
 

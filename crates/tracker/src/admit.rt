@@ -5,9 +5,11 @@ use direction::settings::position_ok;
 use refusal::Outcome;
 ghost use mathlib.Core.Path.{_≡_};
 ghost use Rattle.refusal.specs.Table.{lowest, otherwise};
+ghost use Rattle.refusal.specs.Answer.{answerOf};
 ghost use Rattle.catalogue.specs.Check.{refusalsOf};
 ghost use Rattle.search.specs.Refusals.{demandOk};
 ghost use Rattle.tracker.specs.Chain.{settingsRows, demandRows};
+ghost use Rattle.tracker.specs.Admit.{catalogueAnswer, admitAnswer};
 
 // The words that the room must have, for 8 directions and 512 stars.
 const ROOM: usize = 4096;
@@ -29,6 +31,7 @@ fn settings_outcome(settings: Settings) -> Outcome
 // 6 and 7.
 pub fn catalogue_outcome(bytes: &[u8]) -> Outcome
     ensures { λ r. ⌜ r ≡ lowest (refusalsOf (now (bytes .entry))) ⌝ }
+    ensures { λ r. ⌜ answerOf r ≡ catalogueAnswer (now (bytes .entry)) ⌝ }
 {
     match catalogue::check(bytes) {
         Checked::Refused(r) => Outcome::Refused(r),
@@ -62,6 +65,7 @@ pub fn outcome(
     words: usize,
 ) -> Outcome
     ensures { λ r. ⌜ r ≡ otherwise frame (otherwise (lowest (settingsRows settings)) (otherwise stars (lowest (demandRows settings words count)))) ⌝ }
+    ensures { λ r. ⌜ answerOf r ≡ admitAnswer frame stars settings words count ⌝ }
 {
     let demand = demand_outcome(settings, words, count);
     let catalogue = refusal::otherwise(stars, demand);

@@ -39,7 +39,7 @@ pub fn u64_at(bytes: &[u8], at: usize) -> u64
 }
 
 // Writes a number as two bytes from a place on.
-pub fn put_u16(room: &mut [u8], at: usize, value: u16)
+fn put_u16(room: &mut [u8], at: usize, value: u16)
     requires { ⌜ at + 2 ≤ length (now room) ⌝ }
     ensures { λ r. ⌜ now (room .exit) ≡ sets (now (room .entry)) at (bytesOf 2 value) ⌝ }
 {

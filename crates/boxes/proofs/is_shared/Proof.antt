@@ -8,7 +8,7 @@ use native.Mathlib.Omega.{arith}
 use lib.Dec.{eqb}
 use borrow.Author.Tests.{eq-eqb, ne-eqb}
 use borrow.Author.Count.{below-none, below-more}
-use Rattle.assignment.proofs.Tests as tests
+use Rattle.assignment.specs.TestsLaws as tests
 use Rattle.guiding.specs.Guider.{claims, shared}
 use Rattle.boxes.proofs.is_shared.Statement.{statement}
 use Rattle.boxes.proofs.is_shared.Tie as tie

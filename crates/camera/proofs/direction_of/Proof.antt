@@ -53,8 +53,8 @@ enum-known-r c = search needs
 enum-known-focal : tie.Need-enum-known-focal
 enum-known-focal c = search needs
 
-direction-of-requires : tie.Need-direction-of-requires
-direction-of-requires c κs = subst (Between 16384 4194304) (sym (back (F c))) (given-between c)
+direction-by-focal-requires : tie.Need-direction-by-focal-requires
+direction-by-focal-requires c κs = subst (Between 16384 4194304) (sym (back (F c))) (given-between c)
 
 returns : tie.Need-returns
 returns c =
@@ -68,7 +68,7 @@ returns-2 c =
     let s = start p in
     let f = s .fits in
     both s
-    (c .direction-of .ensures .0
+    (c .direction-by-focal .ensures .0
     ∙ (λ i. whole.directionOf (back (param (f .cx)) i) (back (param (f .cy)) i) ((back (F p) ∙ known p .1) i) (back (param (f .x)) i) (back (param (f .y)) i))
     ∙ sym (by-whole (s .args .cx) (s .args .cy) (s .args .lens) (s .args .x) (s .args .y) (known p .0)))
 
@@ -79,6 +79,6 @@ direction-of-spec =
     focal-of-requires
     enum-known-r
     enum-known-focal
-    direction-of-requires
+    direction-by-focal-requires
     returns
     returns-2)

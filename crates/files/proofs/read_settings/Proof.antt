@@ -3,7 +3,7 @@ use borrow.Author.Needs.{needs}
 use borrow.Author.Tests.{eq-eqb, ne-eqb}
 use mathlib.Core.Path.{_≡_, sym, ap, _∙_}
 use mathlib.Core.List.{List}
-use Prim.Native.Nat.{ℕ, _<_}
+use Prim.Native.Nat.{ℕ, _^_, _<_}
 use native.Mathlib.Omega.{arith}
 use lib.IntN.{pos}
 use mir.Syntax.{w64}
@@ -11,14 +11,17 @@ use mir.Val.{toZ}
 use mir.ValLaws.{toZ-pos}
 use lib.ListN.{length}
 use Rattle.lens.specs.Stated.{settingsLens}
-use Rattle.files.specs.Settings.{settingsOf, readingOf}
+use Rattle.words.specs.Number.{numberAt}
+use Rattle.files.specs.Settings.{settingsOf, readingOf, answerOf}
+use Rattle.files.specs.SettingsLaws.{read-told, length-told}
+use Rattle.files.specs.declared.Reading.{Reading}
 use Rattle.files.specs.declared.Reading.the-variants.{Read}
 use Rattle.files.proofs.read_settings.Statement.{statement}
 use Rattle.files.proofs.read_settings.Tie as tie
 
 returns : tie.Need-returns
 unfolding readingOf
-returns c = simp (ne-eqb _ _ (c .if1 .taken))
+returns c = (simp (ne-eqb _ _ (c .if1 .taken)), length-told (c .before .before .args .bytes .now) (c .if1 .taken))
 
 u16-at-requires : tie.Need-u16-at-requires
 u16-at-requires c κs = search needs
@@ -85,6 +88,9 @@ returns-2 c =
     let n3 = n4 .before in
     let n2 = n3 .before in
     let n1 = n2 .before in
+    let whole = n1 .before .if1 .left in
+    let focal : numberAt (n1 .before .before .before .args .bytes .now) 16 4 < 2 ^ 53 = omega (arith, n7 .u32-at3 .ok, n7 .u32-at3 .ensures) in
+    let read : _ ≡ Read (settingsOf (n1 .before .before .before .args .bytes .now)) =
     (λ i.
     Read
     (record {
@@ -96,8 +102,8 @@ returns-2 c =
       cy = place (n6 .u32-at2 .ensures) (n6 .u32-at2 .ok) i;
       lens = (lens .of-settings .ensures ∙ ap settingsLens (n7 .u32-at3 .ensures)) i;
       tolerance = c .u64-at .ensures i;
-    }))
-    ∙ sym (read-whole _ (n1 .before .if1 .left))
+    })) in
+    (read ∙ sym (read-whole _ whole), ap (λ (r : Reading). answerOf r) read ∙ read-told _ whole focal)
 
 pub read-settings-spec : {M : Type 1} → statement M
 read-settings-spec =

@@ -29,18 +29,18 @@ enum-told c = search needs
 verdict-at-requires : tie.Need-verdict-at-requires
 verdict-at-requires c κs =
     let a = c .before .before .before .before .args in
-    let v = accepted-pixel (a .samples .now) (a .width) (a .height) (a .threshold) (a .row) (a .column) (sym (c .before .before .pixel-outcome .ensures) ∙ c .enum-told .given .1) in
+    let v = accepted-pixel (a .samples .now) (a .width) (a .height) (a .threshold) (a .row) (a .column) (sym (c .before .before .pixel-outcome .ensures .0) ∙ c .enum-told .given .1) in
     (v .0 .whole, v .1, v .2, v .0 .high .1, v .0 .wide .1)
 
 returns : tie.Need-returns
 unfolding judgementOf
-returns c = both (c .before .before .before .before .before) (rw (sym (c .before .before .before .pixel-outcome .ensures) ∙ c .before .outcome .given .1))
+returns c = both (c .before .before .before .before .before) (rw (sym (c .before .before .before .pixel-outcome .ensures .0) ∙ c .before .outcome .given .1))
 
 returns-2 : tie.Need-returns-2
 unfolding judgementOf
 returns-2 c =
     both (c .before .before .before .before .before)
-    (rw (sym (c .before .before .before .pixel-outcome .ensures) ∙ c .before .enum-told .given .1, c .verdict-at .ensures))
+    (rw (sym (c .before .before .before .pixel-outcome .ensures .0) ∙ c .before .enum-told .given .1, c .verdict-at .ensures))
 
 pub judge-spec : {M : Type 1} → statement M
 judge-spec =

@@ -21,7 +21,7 @@ enum-told-2 c = search needs
 report-of-requires : tie.Need-report-of-requires
 report-of-requires c κs =
     let a = c .before .before .before .before .args in
-    let v = accepted-valid (a .samples .now) (a .width) (a .height) (a .threshold) (sym (c .before .before .frame-outcome .ensures) ∙ c .enum-told2 .given .1) in
+    let v = accepted-valid (a .samples .now) (a .width) (a .height) (a .threshold) (sym (c .before .before .frame-outcome .ensures .0) ∙ c .enum-told2 .given .1) in
     (v .whole, v .high .1, v .wide .1)
 
 returns : tie.Need-returns
@@ -29,14 +29,14 @@ unfolding listingOf
 returns c =
     let o = c .before .before .before .frame-outcome in
     let g = c .before .enum-told .given .1 in
-    rw (c .none .ensures, g, sym (o .ensures) ∙ g)
+    rw (c .none .ensures, g, sym (o .ensures .0) ∙ g)
 
 returns-2 : tie.Need-returns-2
 unfolding listingOf
 returns-2 c =
     let o = c .before .before .before .frame-outcome in
     let g = c .before .enum-told2 .given .1 in
-    rw (c .report-of .ensures, g, sym (o .ensures) ∙ g)
+    rw (c .report-of .ensures, g, sym (o .ensures .0) ∙ g)
 
 pub list-spec : {M : Type 1} → statement M
 list-spec =

@@ -43,7 +43,7 @@ stars-is o =
 outcome-is : (o : tie.After-outcome) → o .outcome .result ≡ lowest (refusalsOf (whole o))
 outcome-is o =
     let c = whole o in
-    o .outcome .ensures
+    o .outcome .ensures .0
     ∙ (λ i. otherwise (listing-is o i .outcome) (otherwise (lowest (settingsRows (c .chain .settings))) (otherwise (stars-is o i) (lowest (demandRows (c .chain .settings) (length (c .chain .room)) (listing-is o i .report .count))))))
     ∙ sym (refusals-joined c)
 

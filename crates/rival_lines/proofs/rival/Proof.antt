@@ -64,7 +64,7 @@ returns-2 c =
     let k = w .before .before .before in
     let e = k .before .before .before in
     let a = start e .args in
-    let t = refused-text (a .settings .now) (a .frame .now) (a .catalogue .now) (k .r .given .0 .0) (sym (k .before .before .read-settings .ensures) ∙ k .r .given .1) in
+    let t = refused-text (a .settings .now) (a .frame .now) (a .catalogue .now) (k .r .given .0 .0) (sym (k .before .before .read-settings .ensures .0) ∙ k .r .given .1) in
     whole _ _ _ _ (e .if1 .left) (omega (arith, w .refused .ensures .1)) (subst (λ (x : List ℕ). Wrote (a .room .now) 0 x (w .refused .last .0) (w .refused .result)) t (w .refused .ensures .0))
 
 same-length-2 : tie.Need-same-length-2
@@ -76,7 +76,7 @@ returns-3 c =
     let k = w .before .before .before in
     let e = k .before .before .before in
     let a = start e .args in
-    let t = settings-text (a .settings .now) (a .frame .now) (a .catalogue .now) (k .s .given .0 .0) (sym (k .before .before .read-settings .ensures) ∙ k .s .given .1) in
+    let t = settings-text (a .settings .now) (a .frame .now) (a .catalogue .now) (k .s .given .0 .0) (sym (k .before .before .read-settings .ensures .0) ∙ k .s .given .1) in
     whole _ _ _ _ (e .if1 .left) (w .read .ensures .1) (subst (λ (x : List ℕ). Wrote (a .room .now) 0 x (w .read .last .1 .1 .1 .0) (w .read .result)) t (w .read .ensures .0))
 
 pub rival-spec : {M : Type 1} → statement M

@@ -38,8 +38,8 @@ report-is o = ap (λ (l : Listing). l .report) (listing-is o)
 outcome-is : (o : tie.After-outcome) → o .outcome .result ≡ lowest (refusalsOf (whole o))
 outcome-is o =
     let c = whole o in
-    o .outcome .ensures
-    ∙ (λ i. otherwise (listing-is o i .outcome) (otherwise (lowest (settingsRows (c .settings))) (otherwise (o .before .catalogue-outcome .ensures i) (lowest (demandRows (c .settings) (length (c .room)) (listing-is o i .report .count))))))
+    o .outcome .ensures .0
+    ∙ (λ i. otherwise (listing-is o i .outcome) (otherwise (lowest (settingsRows (c .settings))) (otherwise (o .before .catalogue-outcome .ensures .0 i) (lowest (demandRows (c .settings) (length (c .room)) (listing-is o i .report .count))))))
     ∙ sym (refusals-joined c)
 
 -- ---- what the definitions come to

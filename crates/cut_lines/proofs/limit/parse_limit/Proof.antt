@@ -6,6 +6,7 @@ use mir.Val.{SFits}
 use mir.ValLaws.{toZ-ofZ}
 use Rattle.text.specs.declared.sign.Signed.{Signed}
 use Rattle.cut_lines.specs.Limit.{limitFor, narrowed}
+use Rattle.cut_lines.specs.LimitLaws.{told}
 use Rattle.cut_lines.proofs.limit.parse_limit.Statement.{statement}
 use Rattle.cut_lines.proofs.limit.parse_limit.Tie as tie
 
@@ -22,14 +23,14 @@ narrow-requires : tie.Need-narrow-requires
 narrow-requires c κs = search needs
 
 returns : tie.Need-returns
-returns c = ap (λ (x : Signed). narrowed x) (sym (c .enum-told .given .1) ∙ c .before .before .parse-signed .ensures)
+returns c = told _ (ap (λ (x : Signed). narrowed x) (sym (c .enum-told .given .1) ∙ c .before .before .parse-signed .ensures .0))
 
 returns-2 : tie.Need-returns-2
 returns-2 c =
     let k = c .before .before in
     let z = k .number .given .0 .0 in
     let f : SFits w64 z = record { sfits = c .before .known-told .given .0 .1 } in
-    c .narrow .ensures ∙ ap limitFor (toZ-ofZ w64 z f) ∙ ap (λ (x : Signed). narrowed x) (sym (k .number .given .1) ∙ k .before .before .parse-signed .ensures)
+    told _ (c .narrow .ensures ∙ ap limitFor (toZ-ofZ w64 z f) ∙ ap (λ (x : Signed). narrowed x) (sym (k .number .given .1) ∙ k .before .before .parse-signed .ensures .0))
 
 pub parse-limit-spec : {M : Type 1} → statement M
 parse-limit-spec =

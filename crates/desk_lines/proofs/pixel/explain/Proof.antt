@@ -41,7 +41,7 @@ returns c =
     let r : tie.After-read-samples = search needs in
     let a = start r .args in
     let s = a .settings in
-    c .explain .ensures ∙ ap (λ (xs : List ℕ). explanationOf xs (s .width) (s .height) (s .threshold) (a .row) (a .column)) (samples-are r)
+    c .explain .ensures .0 ∙ ap (λ (xs : List ℕ). explanationOf xs (s .width) (s .height) (s .threshold) (a .row) (a .column)) (samples-are r)
 
 pub explain-spec : {M : Type 1} → statement M
 explain-spec =

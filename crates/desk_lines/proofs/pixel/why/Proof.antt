@@ -69,7 +69,7 @@ returns-2 c =
     let f : tie.After-read-settings = search needs in
     let e : tie.Else1 = search needs in
     let a : tie.Start = search needs in
-    let t = refused-line (a .args .settings .now) (a .args .frame .now) (a .args .row) (a .args .column) _ (sym (f .read-settings .ensures) ∙ k .reading .given .1) in
+    let t = refused-line (a .args .settings .now) (a .args .frame .now) (a .args .row) (a .args .column) _ (sym (f .read-settings .ensures .0) ∙ k .reading .given .1) in
     whole _ _ _ _ _ (e .if1 .left) (omega (arith, w .refused .ensures .1)) t (w .refused .ensures .0)
 
 same-length-2 : tie.Need-same-length-2
@@ -83,7 +83,7 @@ returns-3 c =
     let f : tie.After-read-settings = search needs in
     let e : tie.Else1 = search needs in
     let a : tie.Start = search needs in
-    let t = read-line (a .args .settings .now) (a .args .frame .now) (a .args .row) (a .args .column) _ _ (sym (f .read-settings .ensures) ∙ k .reading2 .given .1) (x .explain .ensures) in
+    let t = read-line (a .args .settings .now) (a .args .frame .now) (a .args .row) (a .args .column) _ _ (sym (f .read-settings .ensures .0) ∙ k .reading2 .given .1) (x .explain .ensures) in
     whole _ _ _ _ _ (e .if1 .left) (w .line .ensures .1) t (w .line .ensures .0)
 
 pub why-spec : {M : Type 1} → statement M

@@ -1,5 +1,5 @@
 -- `fit::mirror::turn_of` meets its contract. Assumes nothing.
-use mathlib.Core.Path.{_∙_}
+use mathlib.Core.Path.{refl, _∙_}
 use native.Mathlib.Omega.{arith}
 use mir.Syntax.{w64}
 use Rattle.numbers.specs.Num.{kept}
@@ -10,10 +10,10 @@ use Rattle.fit.proofs.mirror.turn_of.Statement.{statement}
 use Rattle.fit.proofs.mirror.turn_of.Tie as tie
 
 returns : tie.Need-returns
-returns c = λ l m. absurd (omega arith)
+returns c = (λ l m. absurd (omega arith), λ h. refl)
 
 returns-2 : tie.Need-returns-2
-returns-2 c = λ l m. absurd (omega arith)
+returns-2 c = (λ l m. absurd (omega arith), λ h. refl)
 
 triple-at-requires : tie.Need-triple-at-requires
 triple-at-requires c κs = search needs
@@ -32,10 +32,10 @@ triple-product-requires c κs =
     (rw (c .before .before .triple-at .ensures) (triple-within w (a .j)), (rw (c .before .triple-at2 .ensures) (triple-within w (a .k)), rw (c .triple-at3 .ensures) (triple-within w (a .i))))
 
 returns-3 : tie.Need-returns-3
-returns-3 c = λ l m.
+returns-3 c =
     let e = c .triple-product .ensures in
     let o = c .before in
-    kept w64 (c .triple-product .ok) (e .0 ∙ (λ i. tripleOf (o .before .before .triple-at .ensures i) (o .before .triple-at2 .ensures i) (o .triple-at3 .ensures i)))
+    (λ l m. kept w64 (c .triple-product .ok) (e .0 ∙ (λ i. tripleOf (o .before .before .triple-at .ensures i) (o .before .triple-at2 .ensures i) (o .triple-at3 .ensures i))), λ h. absurd (h (omega arith) (omega arith)))
 
 pub turn-of-spec : {M : Type 1} → statement M
 turn-of-spec =

@@ -6,7 +6,7 @@ use Prim.Native.Nat.{_≤_, _-_}
 use native.Mathlib.Omega.{arith}
 use borrow.Author.Tests.{le-leb, lt-leb, not-true, not-false}
 use Rattle.assignment.specs.Tests.{all}
-use Rattle.assignment.proofs.Tests as tests
+use Rattle.assignment.specs.TestsLaws as tests
 use Rattle.guiding.specs.Rule.{guideOk, guiderOk}
 use Rattle.guider.specs.Identities.{same-rule}
 use Rattle.guider.proofs.check.guider_ok.Statement.{statement}

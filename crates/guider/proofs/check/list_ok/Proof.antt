@@ -6,7 +6,7 @@ use Prim.Native.Nat.{_≤_, _-_}
 use native.Mathlib.Omega.{arith}
 use borrow.Author.Tests.{le-leb, lt-leb, not-true, not-false}
 use Rattle.assignment.specs.Tests.{all}
-use Rattle.assignment.proofs.Tests as tests
+use Rattle.assignment.specs.TestsLaws as tests
 use Rattle.guiding.specs.Guider.{starAt}
 use Rattle.guiding.specs.Rule.{onFrame, listOk}
 use Rattle.guider.proofs.check.list_ok.Statement.{statement}

@@ -1,13 +1,15 @@
--- `playback::stream::doubles` is safe and ends: the count is within the room, which keeps its length. Assumes nothing.
+-- `playback::stream::doubles` meets its contract: the count is within the room, which keeps its length, and what stands behind the count stays. Assumes nothing.
 use borrow.Author.Needs.{needs}
 use Prim.Native.Nat.{_-_, _≤_, _<_}
-use mathlib.Core.Path.{_≡_}
-use lib.ListN.{length}
+use mathlib.Core.Path.{_≡_, refl}
+use native.Mathlib.Omega.{arith}
+use lib.ListN.{length, drop, length-set}
+use lib.Seq.{drop-set-lt}
 use Rattle.playback.proofs.stream.doubles.Statement.{statement}
 use Rattle.playback.proofs.stream.doubles.Tie as tie
 
 abbrev Inv-loop : tie.InvT-loop
-Inv-loop bytes room₀ count i₀ room i = (i ≤ count) × (count ≤ length room₀) × (length room ≡ length room₀)
+Inv-loop bytes room₀ count i₀ room i = (i ≤ count) × (count ≤ length room₀) × (length room ≡ length room₀) × (drop count room ≡ drop count room₀)
 
 abbrev μ-loop : tie.MeasureT-loop
 μ-loop bytes room₀ count i₀ room i = count - i
@@ -16,7 +18,7 @@ least-requires : tie.Need-least-requires Inv-loop μ-loop
 least-requires c κs = search needs
 
 loop-holds : tie.Need-loop-holds Inv-loop μ-loop
-loop-holds c = search needs
+loop-holds c = (omega arith, c .least .ensures .1, refl, refl)
 
 mul-number : tie.Need-mul-number Inv-loop μ-loop
 mul-number c = search needs
@@ -40,13 +42,18 @@ loop-less : tie.Need-loop-less Inv-loop μ-loop
 loop-less c = search needs
 
 loop-again : tie.Need-loop-again Inv-loop μ-loop
-loop-again c = search needs
+loop-again c =
+    let l : tie.At-loop Inv-loop μ-loop = search needs in
+    let v = l .loop .inv in
+    let o : tie.In-loop Inv-loop μ-loop = search needs in
+    let h = o .loop-test .taken in
+    (omega arith, v .1, simp length-set (v .2), rw drop-set-lt (v .3))
 
 same-length : tie.Need-same-length Inv-loop μ-loop
 same-length c = search needs
 
 returns : tie.Need-returns Inv-loop μ-loop
-returns c = search needs
+returns c = (omega arith, c .before .loop .inv .3)
 
 pub doubles-spec : {M : Type 1} → statement M
 doubles-spec =

@@ -6,7 +6,7 @@ use Prim.Native.Nat.{ℕ, _+_, _-_, _≤_, _<_}
 use native.Mathlib.Omega.{arith}
 use lib.ListN.{length, drop}
 use Rattle.text.specs.Parse.{parsedFrom, parsedOf}
-use Rattle.text.specs.ParseLaws.{parsed-next, parsed-stop, parsed-some, parsed-empty, parsed-whole}
+use Rattle.text.specs.ParseLaws.{parsed-next, parsed-stop, parsed-some, parsed-empty, parsed-whole, told}
 use Rattle.text.proofs.parse.parse_number.Statement.{statement}
 use Rattle.text.proofs.parse.parse_number.Tie as tie
 
@@ -20,7 +20,7 @@ abbrev μ-loop : tie.MeasureT-loop
 μ-loop word value₀ i₀ value i = length word - i
 
 returns : tie.Need-returns Inv-loop μ-loop
-returns c = sym (parsed-empty _ (c .if1 .taken))
+returns c = told _ (sym (parsed-empty _ (c .if1 .taken)))
 
 loop-holds : tie.Need-loop-holds Inv-loop μ-loop
 loop-holds c = (omega arith, omega arith, parsed-some _ (omega (arith, c .if1 .left)))
@@ -42,7 +42,7 @@ returns-2 c =
     let w : tie.After-with-digit Inv-loop μ-loop = search needs in
     let o : tie.In-loop Inv-loop μ-loop = search needs in
     let l = o .before .loop in
-    sym (l .inv .2 ∙ parsed-stop _ (l .i) (l .value) (o .loop-test .taken) (sym (w .with-digit .ensures) ∙ c .enum-told .given .1))
+    told _ (sym (l .inv .2 ∙ parsed-stop _ (l .i) (l .value) (o .loop-test .taken) (sym (w .with-digit .ensures) ∙ c .enum-told .given .1)))
 
 add-i : tie.Need-add-i Inv-loop μ-loop
 add-i c = search needs
@@ -61,7 +61,7 @@ loop-again c =
 returns-3 : tie.Need-returns-3 Inv-loop μ-loop
 returns-3 c =
     let l = c .before .loop in
-    sym (l .inv .2 ∙ parsed-whole _ (l .i) (l .value) (omega arith) (l .inv .1))
+    told _ (sym (l .inv .2 ∙ parsed-whole _ (l .i) (l .value) (omega arith) (l .inv .1)))
 
 pub parse-number-spec : {M : Type 1} → statement M
 parse-number-spec =

@@ -9,12 +9,12 @@ use lib.Seq.{take-all}
 use Rattle.text.specs.declared.parse.Parsed.{Parsed}
 use Rattle.text.specs.Parse.{parsedOf}
 use Rattle.text.specs.Sign.{positiveOf, negativeOf}
-use Rattle.text.specs.SignLaws.{empty-read, minus-read, size-read}
+use Rattle.text.specs.SignLaws.{empty-read, minus-read, size-read, told}
 use Rattle.text.proofs.sign.parse_signed.Statement.{statement}
 use Rattle.text.proofs.sign.parse_signed.Tie as tie
 
 returns : tie.Need-returns
-returns c = sym (empty-read _ (c .if1 .taken))
+returns c = told _ (sym (empty-read _ (c .if1 .taken)))
 
 shared-slice-read-if2 : tie.Need-shared-slice-read-if2
 shared-slice-read-if2 c = search needs
@@ -42,7 +42,7 @@ returns-2 c =
     let a : tie.Start = search needs in
     let word = a .args .word .now in
     let rest = take-all (length word - 1) (drop 1 word) (omega (arith, length-drop 1 word)) in
-    c .negative .ensures ∙ ap (λ (x : Parsed). negativeOf x) (p .parse-number .ensures ∙ ap parsedOf rest) ∙ sym (minus-read word (omega (arith, e .if1 .left)) (i .if2 .taken))
+    told _ (c .negative .ensures ∙ ap (λ (x : Parsed). negativeOf x) (p .parse-number .ensures .0 ∙ ap parsedOf rest) ∙ sym (minus-read word (omega (arith, e .if1 .left)) (i .if2 .taken)))
 
 parse-number-requires-2 : tie.Need-parse-number-requires-2
 parse-number-requires-2 c κs = search needs
@@ -55,7 +55,7 @@ returns-3 c =
     let p : tie.After-parse-number2 = search needs in
     let i : tie.Else2 = search needs in
     let e : tie.Else1 = search needs in
-    c .positive .ensures ∙ ap (λ (x : Parsed). positiveOf x) (p .parse-number2 .ensures) ∙ sym (size-read _ (omega (arith, e .if1 .left)) (i .if2 .left))
+    told _ (c .positive .ensures ∙ ap (λ (x : Parsed). positiveOf x) (p .parse-number2 .ensures .0) ∙ sym (size-read _ (omega (arith, e .if1 .left)) (i .if2 .left)))
 
 pub parse-signed-spec : {M : Type 1} → statement M
 parse-signed-spec =

@@ -2,6 +2,7 @@
 use borrow.Author.Needs.{needs}
 use mathlib.Core.Path.{ap, _∙_}
 use Rattle.refusal.specs.Table.{otherwise}
+use Rattle.tracker.specs.ToldLaws.{admit-told}
 use Rattle.tracker.proofs.admit.outcome.Statement.{statement}
 use Rattle.tracker.proofs.admit.outcome.Tie as tie
 
@@ -28,7 +29,8 @@ returns c =
     let demand = o1 .before in
     let a = demand .before .args in
     let inner = o1 .otherwise .ensures ∙ ap (otherwise (a .stars)) (demand .demand-outcome .ensures) in
-    c .otherwise3 .ensures ∙ ap (otherwise (a .frame)) (o2 .otherwise2 .ensures ∙ (λ i. otherwise (camera .settings-outcome .ensures i) (inner i)))
+    admit-told (a .frame) (a .stars) (a .settings) (a .words) (a .count)
+    (c .otherwise3 .ensures ∙ ap (otherwise (a .frame)) (o2 .otherwise2 .ensures ∙ (λ i. otherwise (camera .settings-outcome .ensures i) (inner i))))
 
 pub outcome-spec : {M : Type 1} → statement M
 outcome-spec =

@@ -1,4 +1,4 @@
--- `direction::direction_of` meets its contract: it tests the centre, then the position. Assumes nothing.
+-- `direction::direction_by_focal` meets its contract: it tests the centre, then the position. Assumes nothing.
 use mathlib.Core.Bool.{true}
 use mathlib.Core.Path.{_≡_, sym, ap, _∙_}
 use borrow.Author.Tests.{not-true, not-false}
@@ -13,8 +13,8 @@ use Rattle.direction.specs.Position.{towardOf}
 use Rattle.direction.specs.Direction.{directionOf, answerOf, answerFor}
 use Rattle.direction.specs.DirectionLaws.{centre-out, position-out, in-range, answers}
 use borrow.Author.Needs.{needs}
-use Rattle.direction.proofs.direction_of.Statement.{statement}
-use Rattle.direction.proofs.direction_of.Tie as tie
+use Rattle.direction.proofs.direction_by_focal.Statement.{statement}
+use Rattle.direction.proofs.direction_by_focal.Tie as tie
 
 -- the two tests, of the numbers themselves
 centre-tested : (c : tie.After-position-ok) → c .position-ok .result ≡ positionOk (c .before .args .cx) (c .before .args .cy)
@@ -94,8 +94,8 @@ returns-3 c =
     let e = c .toward .ensures ∙ (λ i. towardOf (back (X p) i) (back (Y p) i) (back (F p) i)) in
     both (p .before .before .before .before) (ap Found e ∙ sym (in-range _ _ _ _ _ (centre-in (p .before .before)) (position-in p)))
 
-pub direction-of-spec : {M : Type 1} → statement M
-direction-of-spec =
+pub direction-by-focal-spec : {M : Type 1} → statement M
+direction-by-focal-spec =
     tie.close
     (tie.spec
     position-ok-requires
