@@ -21,15 +21,19 @@ use Rattle.vectors.specs.Vectors.{Within3, dotOf, crossOf}
 use Rattle.vectors.specs.Laws.{dot-within, cross-within, dot-comm}
 use Rattle.vectors.specs.Symbols.{vec, _▹_, _⊙_, cross, timesOf, times, moreOf, more, sumOf, sum, mixOf, turnOf}
 use Rattle.vectors.specs.Identities.{dot-turn}
-use Rattle.vectors.specs.Triples.{tripleAt}
+use Rattle.vectors.specs.Triples.{tripleAt, pairDot}
+use Rattle.vectors.specs.Agree.{agreeing-near}
 use Rattle.vectors.specs.Unit.{NearlyUnit}
 use Rattle.catalogue.specs.Stars.{starsOf}
 use Rattle.assignment.specs.Order.{at}
+use Rattle.fit.specs.Fit.{agreement, FitsHere}
+use Rattle.search.specs.Identified.{setupFor}
 use Rattle.attitude.specs.declared.Matrix.{Matrix}
 use Rattle.attitude.specs.Scale.{largestOf, shiftOf, reducedOf}
 use Rattle.attitude.specs.Side.{squaresOf, unitOf, axesOf}
 use Rattle.attitude.specs.Entries.{rowBy}
 use Rattle.attitude.specs.Attitude.{matrixOf}
+use Rattle.attitude.specs.Laws.{close-is, same-close}
 use Rattle.attitude.specs.Nearly.{Apart, Carries}
 use Rattle.attitude.specs.Identities.{made-x, dot-mix-from}
 use Rattle.attitude.specs.Bounds.{unit-within}
@@ -382,3 +386,26 @@ module _
         (w .units (w .first) (w .first-seen)) (w .units (w .second) (w .second-seen))
         (w .stars (at words (w .first)) (w .first-star)) (w .stars (at words (w .second)) (w .second-star))
         pairs far sine enough few)
+
+    -- ---- by the tolerance: names that fit, as those of every accepted search do
+
+    two : w .first ≡ w .second → ⊥
+    two e =
+        let a = camera-apart v1 v2 w1 w2 m (w .found) in
+        let b : Apart v1 v1 = subst (λ (n : ℕ). Apart v1 (tripleAt directions n)) (sym e) a in
+        omega (arith, b .apart, close-is v1 v1 .0 (same-close v1))
+
+    exchanged : (a b c d : Vec3) → pos 0 -ℤ (dotOf a b -ℤ dotOf c d) ≡ dotOf d c -ℤ dotOf b a
+    exchanged a b c d =
+        let f = vec 0 in let g = vec 3 in let h = vec 6 in let i = vec 9 in
+        ring (a ▹ b ▹ c ▹ d ▹ []) (num (pos 0) ⊖ (f ⊙ g ⊖ h ⊙ i)) (i ⊙ h ⊖ g ⊙ f) tt
+
+    pub second-by-tolerance :
+        {j s : ℕ} (needed tolerance : ℕ) → FitsHere (setupFor directions bytes needed tolerance) directions (starsOf bytes) words → 0 < s →
+        (s + 9000000000) * (s + 9000000000) + natAbs (dotOf w2 w1) * natAbs (dotOf w2 w1) + 300000000000000000000000000000 ≤ 1000000000000000000000000000000000000 →
+        5600000000000000000000000000000 + tolerance * 2000006000000000000 ≤ s * j → j ≤ 10000000000000000 → Carries (tolerance + j + 1600000000000) m w2 v2
+    unfolding agreement pairDot
+    second-by-tolerance needed tolerance fits =
+        let agreed = fits .agreed (w .first) (w .second) (w .first-seen) (w .second-seen) two (w .first-star) (w .second-star) in
+        let near : Within tolerance (dotOf v1 v2 -ℤ dotOf w1 w2) = record { within = agreeing-near (dotOf v1 v2) (dotOf w1 w2) tolerance agreed } in
+        second-carried (within-as (exchanged v1 v2 w1 w2) (wider (within-sub (within-pos 0) near) (omega arith)))
