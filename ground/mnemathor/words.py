@@ -15,6 +15,8 @@ def whole(low=0, high=MOST):
             number = int(text)
         except ValueError:
             number = None
+        if number is not None and number > high == MOST:
+            raise argparse.ArgumentTypeError(f"{text} is too large")
         if number is None or not low <= number <= high:
             raise argparse.ArgumentTypeError(f"{text} is no whole number {_range(low, high)}")
         return number
