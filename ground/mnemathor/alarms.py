@@ -23,8 +23,8 @@ STARS = (4, 5, 6, 7, 8)
 MOST, LEAST = 8, 3
 # No two measured pixels are nearer than this in both directions, and none is nearer to a side: half a window.
 APART = 3
-# Pairs that accept so many of so many first lists are not judged on the others: their rate is known to about a third.
-FIRST, ENOUGH = 500, 25
+# The first round has so many lists, and at each end there are so many times as many; a pair that has accepted so many by then is known to about a third.
+FIRST, ROUNDS, ENOUGH = 200, 5, 10
 # The library refuses a list that matches nothing sooner than the quick test finds out, for catalogues smaller than this.
 FEW = 200
 
@@ -53,13 +53,14 @@ class Cell:
 
 @dataclass(frozen=True)
 class Alarms:
-    """The cells of a grid, and how many lists were judged of those asked for: fewer where it was stopped."""
+    """The cells of a grid, and how many lists were judged of those asked for: fewer where it was stopped, or no pair was left to judge."""
 
     cells: tuple
     asked: int
     lists: int
     seed: int
     kind: str
+    stopped: bool = False
 
     def cell(self, tolerance, needed):
         """The cell of a pair of settings, or None."""
@@ -68,7 +69,7 @@ class Alarms:
     def as_dict(self):
         """The grid in plain numbers, for JSON."""
         cells = [{**asdict(cell), "bound": cell.bound, "alone_bound": cell.alone_bound} for cell in self.cells]
-        return {"lists": self.lists, "asked": self.asked, "seed": self.seed, "kind": self.kind, "cells": cells}
+        return {"lists": self.lists, "asked": self.asked, "stopped": self.stopped, "seed": self.seed, "kind": self.kind, "cells": cells}
 
 
 def random_positions(random, settings, count):
@@ -106,20 +107,18 @@ def strange_weather(weather, catalogue):
 def measure(settings, catalogue, tolerances, needed, lists, stars=STARS, seed=0, strange=None, rivals=True, processes=None, quiet=False):
     """Judges so many lists for every pair of settings; `strange` is a star list's records and a weather, else positions are random.
 
-    A pair that accepts many of the first lists is known well enough, and is judged on these alone; its cell says how many lists it has.
+    The lists come in rounds, and a pair that has accepted enough by the end of one is judged no further; its cell says how many lists it has.
     Without `rivals` none is asked whether it is alone. Stopped by Ctrl-C, it hands back what was judged so far.
     """
     _check(settings, catalogue, tolerances, needed, lists, stars)
     pairs = [(int(t), int(n)) for t in sorted(set(tolerances)) for n in sorted(set(needed))]
-    judge = Judge(settings, catalogue, pairs, rivals)
-    job = (tuple(stars), seed, strange)
-    results = gathered((judge, *job), _one, range(min(FIRST, lists)), processes, quiet)
-    cells = {pair: _cell(pair, results) for pair in pairs} if results else {}
-    left = [pair for pair, cell in cells.items() if cell.accepted < ENOUGH]
-    if left and len(results) == FIRST < lists:
-        results += gathered((Judge(settings, catalogue, left, rivals), *job), _one, range(FIRST, lists), processes, quiet)
-        cells.update({pair: _cell(pair, results) for pair in left})
-    return Alarms(tuple(cells.values()), lists, len(results), seed, "random" if strange is None else "strange")
+    results, cells, left, end = [], {}, pairs, 0
+    while left and len(results) == end < lists:
+        begin, end = end, min(lists, ROUNDS * end or FIRST)
+        results += gathered((Judge(settings, catalogue, left, rivals), tuple(stars), seed, strange), _one, range(begin, end), processes, quiet)
+        cells.update({pair: _cell(pair, results) for pair in left} if results else {})
+        left = [pair for pair in left if pair in cells and cells[pair].accepted < ENOUGH]
+    return Alarms(tuple(cells.values()), lists, len(results), seed, "random" if strange is None else "strange", len(results) < end)
 
 
 def _check(settings, catalogue, tolerances, needed, lists, stars):
@@ -268,10 +267,10 @@ def table(alarms, side):
     most = counts[-1]
     spread = f"{most}" if len(counts) == 1 else f"{counts[0]} to {most}"
     what = "random positions" if alarms.kind == "random" else "stars of strange frames"
-    short = "" if alarms.lists == alarms.asked else f", stopped before {alarms.asked}"
+    short = f", stopped before {alarms.asked}" if alarms.stopped else ""
     lines = [
         f"{alarms.lists} lists of {spread} {what}, no catalogue star behind any{short}; seed {alarms.seed}; in brackets the 95 % upper bound, exact",
-        f"(a pair that accepts {ENOUGH} of the first {FIRST} is judged on these alone)",
+        f"(a pair that has accepted {ENOUGH} of the first {FIRST}, {FIRST * ROUNDS}, ... is judged on these alone)",
         f"{'tolerance':>17} {f'at {side.to_value(u.deg):.1f}°':>9} {'needed':>6} {'accepted':>20} {'accepted and alone':>20} {f'accepted, lists of {most}':>22}",
     ]
     for cell in alarms.cells:

@@ -136,15 +136,17 @@ def test_alarms_are_counted_as_list_by_list(settings, catalogue):
 
 
 def test_pairs_that_accept_many_are_judged_on_the_first_lists(settings, catalogue, monkeypatch):
-    """Both rounds give what one round over all lists gives; what is settled keeps the count of the first."""
+    """Rounds give what one round over all lists gives; what is settled keeps the count of its round."""
     grid = (settings, catalogue, [NARROW, 8 * 10**14], [3, 4], 40)
     whole = alarms.measure(*grid, stars=(8,), processes=1, quiet=True)
-    monkeypatch.setattr(alarms, "FIRST", 20)
-    monkeypatch.setattr(alarms, "ENOUGH", 15)
-    two = alarms.measure(*grid, stars=(8,), processes=1, quiet=True)
-    settled = [cell for cell in two.cells if cell.lists == 20]
-    assert settled and all(cell.accepted >= 15 for cell in settled) and two.lists == 40
-    assert [cell for cell in two.cells if cell.lists == 40] == [whole.cell(cell.tolerance, cell.needed) for cell in two.cells if cell.lists == 40]
+    monkeypatch.setattr(alarms, "FIRST", 8)
+    monkeypatch.setattr(alarms, "ROUNDS", 2)
+    monkeypatch.setattr(alarms, "ENOUGH", 7)
+    rounds = alarms.measure(*grid, stars=(8,), processes=1, quiet=True)
+    settled = [cell for cell in rounds.cells if cell.lists < 40]
+    assert settled and all(cell.accepted >= 7 and cell.lists in (8, 16, 32) for cell in settled) and rounds.lists == 40
+    rest = [cell for cell in rounds.cells if cell.lists == 40]
+    assert rest and rest == [whole.cell(cell.tolerance, cell.needed) for cell in rest]
 
 
 def test_empty_from_the_command_line(run, folder):
@@ -186,7 +188,7 @@ def test_what_was_judged_is_told_when_it_is_stopped(settings, catalogue, monkeyp
 
     monkeypatch.setattr(alarms, "tqdm", stopped)
     made = alarms.measure(settings, catalogue, [NARROW], [4], 1000, processes=1)
-    assert (made.lists, made.asked) == (17, 1000) and "17 lists" in alarms.table(made, 10 * alarms.u.deg) and "stopped before 1000" in alarms.table(made, 10 * alarms.u.deg)
+    assert (made.lists, made.asked, made.stopped) == (17, 1000, True) and "17 lists" in alarms.table(made, 10 * alarms.u.deg) and "stopped before 1000" in alarms.table(made, 10 * alarms.u.deg)
 
 
 def counted(grid):
