@@ -77,6 +77,7 @@ fn attitude_in(vectors: &[i64]) -> Attitude
     attitude::triad(v1, v2, w1, w2)
 }
 
+// The matrix that carries sky to camera, of such a list.
 #[no_mangle]
 pub extern "C" fn mnemathor_attitude(vectors: &[i64], out: &mut [i64])
     ensures { λ _. ⌜ now (out .exit) ≡ handedOver (attitudeNumbers (attitudeIn (now (vectors .entry)))) (now (out .entry)) ⌝ }
