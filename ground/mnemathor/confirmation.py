@@ -69,7 +69,7 @@ class Confirmation:
         if self.odds is None:
             return f"neither confirmed nor not: {_stars(len(self.stars))} in the frame, at least {FEWEST} are wanted"
         word = "confirmed" if self.verdict else "not confirmed"
-        return f"{word}: {self.found} of {_stars(len(self.stars))} found, {self.expected:.1f} by chance ({_in_words(self.odds)})"
+        return f"{word}: {self.found} of {_stars(len(self.stars))} found, {self.expected:.1f} by chance ({in_words(self.odds)})"
 
 
 @dataclass(frozen=True)
@@ -174,6 +174,6 @@ def _stars(count):
     return f"{count} further star{'' if count == 1 else 's'}"
 
 
-def _in_words(odds):
+def in_words(odds):
     """A chance as 1 in so many."""
     return "more often than not" if odds > 0.5 else f"1 in {float(f'{1 / odds:.2g}'):,.0f}" if odds > 1e-9 else "less than 1 in 10^9"

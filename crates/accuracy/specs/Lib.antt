@@ -7,3 +7,4 @@ pub mod Index
 pub mod Burst
 pub mod Floats
 pub mod Names
+pub mod Every

@@ -363,16 +363,16 @@ module _
 module _
     {directions : List ℤ} {bytes : List ℕ} {words : List ℕ} {m : Matrix} (w : Worth directions bytes words m)
   where
-    abbrev v1 : Vec3
+    abbrev pub v1 : Vec3
     v1 = tripleAt directions (w .first)
 
-    abbrev v2 : Vec3
+    abbrev pub v2 : Vec3
     v2 = tripleAt directions (w .second)
 
-    abbrev w1 : Vec3
+    abbrev pub w1 : Vec3
     w1 = tripleAt (starsOf bytes) (at words (w .first))
 
-    abbrev w2 : Vec3
+    abbrev pub w2 : Vec3
     w2 = tripleAt (starsOf bytes) (at words (w .second))
 
     pub second-carried :
