@@ -372,7 +372,7 @@ def _add_trial(subcommands):
 
 def _add_alarms(words):
     words.add_argument("--lists", type=whole(0, 10**7), metavar="N", help="lists with no star behind them; else 3000, alone 10000; 0 leaves false alarms out")
-    words.add_argument("--stars", type=whole(1, 8), nargs="+", metavar="N", help="how many positions such a list has, in turn; else 8, the most, and with --empty 4 to 8")
+    words.add_argument("--stars", type=whole(), nargs="+", metavar="N", help="how many positions such a list has, in turn; else 8, the most, and with --empty 4 to 8")
     words.add_argument("--alarms", type=number(0, 1), default=0.001, metavar="RATE", help="the upper bound of the false alarms must lie below this")
     words.add_argument("--empty", action="store_true", help="count false alarms alone, without simulated frames")
     words.add_argument("--strange", metavar="STARS", help="the same, of simulated frames of this star list, at places that the catalogue does not cover")

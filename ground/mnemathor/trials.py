@@ -131,7 +131,7 @@ def trial(settings, catalogue, frames, tolerances, needed, weather, seed=0, off=
     results = _gathered(_run(job, frames, processes, quiet))
     limit = (off * pixel_angle(settings)).to_value(u.arcsec)
     cells = tuple(_cell(pair, [outcomes[k] for outcomes, _ in results], limit) for k, pair in enumerate(pairs))
-    return Trial(cells, len(results), seed, off, sum(draws for _, draws in results), frames)
+    return Trial(cells, len(results), seed, off, sum(draws for _, draws in results), wanted=frames)
 
 
 def _has_lens(settings):

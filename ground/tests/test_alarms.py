@@ -220,7 +220,7 @@ def test_the_pair_that_is_taken():
 
 def test_a_trial_weighs_false_alarms(run, folder, tmp_path):
     words = ("trial", folder, "--frames", 6, "--tolerances", NARROW, 8 * 10**14, "--needed", 3, 4, "--seed", 3, "--lists", 60, "--alarms", 0.06)
-    status, out, _ = run(*words, "--set", "--plot", tmp_path / "t.png")
+    status, out, _ = run(*words, "--set", "--bound", 60, "--plot", tmp_path / "t.png")
     assert status == 0 and "false alarms" in out.splitlines()[1] and "of 60 lists with no star behind them 0 accepted" in out
     assert read_settings(folder).needed == 4 and (tmp_path / "t.png").stat().st_size > 5000
     told = json.loads(run(*words, "--json")[1])

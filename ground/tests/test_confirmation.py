@@ -107,7 +107,7 @@ def test_further_stars_are_ringed(settings, catalogue, orion):
     solution = solving.solve(settings, orion.samples, catalogue)
     told = confirm(settings, orion.samples, catalogue, solution)
     axes = pictures.picture(settings, orion.samples, catalogue).axes[0]
-    rings = [patch for patch in axes.patches if isinstance(patch, Circle) and patch.radius == pictures.SMALL]
+    rings = [patch for patch in axes.patches if isinstance(patch, Circle) and patch.radius == pictures.SMALL * pictures.ring(settings)]
     assert {ring.center for ring in rings} == {(star.column, star.row) for star in told.stars}
     whole = {ring.center for ring in rings if ring.get_linestyle() in ("-", "solid")}
     assert whole == {(star.column, star.row) for star in told.stars if star.found}

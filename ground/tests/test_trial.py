@@ -60,7 +60,7 @@ def test_a_small_trial(run, folder, tmp_path):
 
 
 def test_set_wants_a_bound(run, folder):
-    words = ("trial", folder, "--frames", 12, "--seed", 3, "--needed", 4, "--tolerances", 2 * 10**14, "--set")
+    words = ("trial", folder, "--frames", 12, "--seed", 3, "--needed", 4, "--tolerances", 2 * 10**14, "--lists", 30, "--alarms", 1, "--set")
     before = read_settings(folder)
     status, out, err = run(*words)
     assert status == 2 and "recommended" in out and read_settings(folder) == before
