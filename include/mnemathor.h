@@ -4,7 +4,7 @@
  * used here. The archive's functions, mnemathor_..., are proved. They hand over 64 numbers each; the functions of this file, mn_..., lend them the caller's
  * buffers and take the numbers apart, and decide nothing.
  *
- * Every call returns its refusal: number MN_ACCEPTED, or the lowest row of its table that applies, with a place. Its answer goes where the last pointer
+ * Every call returns its refusal: number MN_ACCEPTED, or the first row of its table that applies, with a place. Its answer goes where the last pointer
  * points to, and is zeros where the call is refused. Buffers are pointer and length in elements; NULL with length 0 is fine. A buffer that a call writes
  * overlaps no other that it is lent. No call keeps a pointer, no call allocates, none has a state of its own: calls may run at the same time as long as no
  * buffer that one of them writes is lent to another.

@@ -5,7 +5,7 @@ use Prim.Native.Nat.{ℕ, _*_, _<_}
 use lib.ListN.{take, drop}
 use Rattle.refusal.specs.declared.Outcome.{Outcome}
 use Rattle.refusal.specs.declared.Outcome.the-variants.{Accepted}
-use Rattle.refusal.specs.Table.{lowest}
+use Rattle.refusal.specs.Table.{firstApplying}
 use Rattle.attitude.specs.declared.Matrix.{Matrix}
 use Rattle.burst_records.specs.Record.{Record, recordSize, recordOf, decoded}
 use Rattle.tracker.specs.Chain as chain
@@ -15,7 +15,7 @@ use Rattle.burst.specs.Laws.{decoded-at}
 use Rattle.accuracy.specs.Worth.{Worth}
 use Rattle.accuracy.specs.Chain.{tracked-worth}
 
-module _ (c : Call) (whole : lowest (refusalsOf c) ≡ Accepted) (k : ℕ) (inside : k < framesIn c) where
+module _ (c : Call) (whole : firstApplying (refusalsOf c) ≡ Accepted) (k : ℕ) (inside : k < framesIn c) where
   -- the single call on frame k, and what stands in its record
   abbrev single : chain.Call
   single = chain.call (frameAt (sizeOf c) (c .samples) k) (c .catalogue) (c .settings) (c .room)

@@ -13,7 +13,7 @@ use Rattle.counting.specs.Contradiction.{contradiction}
 use Rattle.refusal.specs.declared.Refusal.{Refusal}
 use Rattle.refusal.specs.declared.Outcome.{Outcome}
 use Rattle.refusal.specs.declared.Outcome.the-variants.{Accepted, Refused}
-use Rattle.refusal.specs.Table.{lowest, answered, otherwise}
+use Rattle.refusal.specs.Table.{firstApplying, answered, otherwise}
 use Rattle.refusal.specs.Laws.{Silent, accepted-silent, otherwise-accepted}
 use Rattle.vectors.specs.declared.Vec3.{Vec3}
 use Rattle.vectors.specs.Triples.{tripleAt}
@@ -76,13 +76,13 @@ sight-at s (star ∷ stars) (suc k) h =
 
 -- ---- the settings of a call that is not refused early
 
-settings-kept : (s : Settings) → lowest (settingsRows s) ≡ Accepted → (lensOk (s .lens) ≡ true) × Position (s .cx) (s .cy)
+settings-kept : (s : Settings) → firstApplying (settingsRows s) ≡ Accepted → (lensOk (s .lens) ≡ true) × Position (s .cx) (s .cy)
 unfolding settingsRows Silent
 settings-kept s e =
     let q = accepted-silent (settingsRows s) e in
     (not-false (lensOk (s .lens)) (q .0), ok-position (s .cx) (s .cy) (not-false (positionOk (s .cx) (s .cy)) (q .1 .0)))
 
-module _ (c : Call) (e : lowest (refusalsOf c) ≡ Accepted) where
+module _ (c : Call) (e : firstApplying (refusalsOf c) ≡ Accepted) where
   abbrev s : Settings
   s = c .settings
 
@@ -94,9 +94,9 @@ module _ (c : Call) (e : lowest (refusalsOf c) ≡ Accepted) where
 
   kept : (lensOk (s .lens) ≡ true) × Position (s .cx) (s .cy)
   kept =
-      let rest = otherwise (lowest (catalogue.refusalsOf (c .catalogue))) (lowest (demandRows s (length (c .room)) (report .count))) in
-      let a = otherwise-accepted (listed c .outcome) (otherwise (lowest (settingsRows s)) rest) (sym (refusals-joined c) ∙ e) in
-      settings-kept s (otherwise-accepted (lowest (settingsRows s)) rest (a .1) .0)
+      let rest = otherwise (firstApplying (catalogue.refusalsOf (c .catalogue))) (firstApplying (demandRows s (length (c .room)) (report .count))) in
+      let a = otherwise-accepted (listed c .outcome) (otherwise (firstApplying (settingsRows s)) rest) (sym (refusals-joined c) ∙ e) in
+      settings-kept s (otherwise-accepted (firstApplying (settingsRows s)) rest (a .1) .0)
 
   threes : length sights ≡ 3 * directionsIn sights
   threes =
@@ -134,10 +134,10 @@ module _ (c : Call) (accepted : trackedOf c .outcome ≡ Accepted) where
   abbrev ours : Identification
   ours = ourIdentification (listed c .report) (c .catalogue) (c .settings)
 
-  pub tracked-settled : Settled (listed c .report) (ours .stars) (orientationOf directions (starsOf (c .catalogue)) (ours .stars)) (ours .outcome) (lowest (refusalsOf c))
+  pub tracked-settled : Settled (listed c .report) (ours .stars) (orientationOf directions (starsOf (c .catalogue)) (ours .stars)) (ours .outcome) (firstApplying (refusalsOf c))
   unfolding trackedOf locatedOf settledOf
   tracked-settled =
-      settled (listed c .report) (ours .stars) (orientationOf directions (starsOf (c .catalogue)) (ours .stars)) (ours .outcome) (lowest (refusalsOf c)) accepted
+      settled (listed c .report) (ours .stars) (orientationOf directions (starsOf (c .catalogue)) (ours .stars)) (ours .outcome) (firstApplying (refusalsOf c)) accepted
 
   pub tracked-stars : trackedOf c .stars ≡ ours .stars
   unfolding trackedOf locatedOf settledOf

@@ -3,7 +3,7 @@ use mathlib.Core.Path.{_≡_, refl, sym, ap, _∙_, subst}
 use Rattle.counting.specs.Contradiction.{contradiction}
 use Rattle.refusal.specs.declared.Outcome.{Outcome}
 use Rattle.refusal.specs.declared.Outcome.the-variants.{Accepted, Refused}
-use Rattle.refusal.specs.Table.{lowest}
+use Rattle.refusal.specs.Table.{firstApplying}
 use Rattle.tracker.specs.declared.Tracked.{Tracked}
 use Rattle.tracker.specs.Chain as plain
 use Rattle.tracker.specs.Chain.{listed, sightsOf}
@@ -14,9 +14,9 @@ use Rattle.accuracy.specs.Chain.{tracked-worth}
 
 module _ (c : Call) (accepted : trackedOf c .outcome ≡ Accepted) where
   is-plain : trackedOf c ≡ plain.trackedOf (c .chain)
-  is-plain = by (lowest (refusalsOf c)) refl
+  is-plain = by (firstApplying (refusalsOf c)) refl
     where
-      by : (o : Outcome) → lowest (refusalsOf c) ≡ o → trackedOf c ≡ plain.trackedOf (c .chain)
+      by : (o : Outcome) → firstApplying (refusalsOf c) ≡ o → trackedOf c ≡ plain.trackedOf (c .chain)
       by Accepted e = right-tracked c (accepted-right c e)
       by (Refused q) e =
           let refused : trackedOf c .outcome ≡ Refused q = ap (λ (t : Tracked). t .outcome) (refused-tracked c q e) in

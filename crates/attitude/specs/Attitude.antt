@@ -5,7 +5,7 @@ use Prim.Native.Nat.{ℕ, _^_}
 use lib.Dec.{ltb}
 use lib.IntN.{ℤ}
 use Rattle.refusal.specs.Numbers.{directions, close}
-use Rattle.refusal.specs.Table.{Row, row, lowest, answered}
+use Rattle.refusal.specs.Table.{Row, row, firstApplying, answered}
 use Rattle.refusal.specs.Answer.{Answer, refusedWith, acceptedWith}
 use Rattle.vectors.specs.declared.Vec3.{Vec3}
 use Rattle.vectors.specs.Vectors.{crossOf}
@@ -40,7 +40,7 @@ unfoldable pub matrixOf : Vec3 → Vec3 → Vec3 → Vec3 → Matrix
 matrixOf v1 v2 w1 w2 = productOf (axesOf v1 v2) (axesOf w1 w2)
 
 unfoldable pub attitudeOf : Vec3 → Vec3 → Vec3 → Vec3 → Attitude
-attitudeOf v1 v2 w1 w2 = answered Refused (Found (matrixOf v1 v2 w1 w2)) (lowest (refusalsOf v1 v2 w1 w2))
+attitudeOf v1 v2 w1 w2 = answered Refused (Found (matrixOf v1 v2 w1 w2)) (firstApplying (refusalsOf v1 v2 w1 w2))
 
 -- ---- in document 01's own terms: the entries row by row
 

@@ -5,7 +5,7 @@ use lib.Dec.{lit≤, lit<}
 use lib.IntN.{pos, negsuc}
 use Rattle.numbers.specs.Root.{Root}
 use Rattle.refusal.specs.Numbers.{close}
-use Rattle.refusal.specs.Table.{lowest}
+use Rattle.refusal.specs.Table.{firstApplying}
 use Rattle.vectors.specs.declared.Vec3.{Vec3}
 use Rattle.attitude.specs.declared.Attitude.the-variants.{Found}
 use Rattle.attitude.specs.Scale.{firstShift, shiftOf, reducedOf}
@@ -32,15 +32,15 @@ known = record { below = lit≤ tt; above = lit< tt }
 
 -- I: two vectors with themselves give the identity
 pub case-I : attitudeOf out right out right ≡ Found (record { row0 = right; row1 = down; row2 = out })
-unfolding reducedOf shiftOf firstShift lowest
+unfolding reducedOf shiftOf firstShift firstApplying
 case-I = attitude-by out right out right known known
 
 -- J: the camera sees them turned
 pub case-J : attitudeOf out down out right ≡ Found (record { row0 = up; row1 = right; row2 = out })
-unfolding reducedOf shiftOf firstShift lowest
+unfolding reducedOf shiftOf firstShift firstApplying
 case-J = attitude-by out down out right known known
 
 -- K: one direction twice
 pub case-K : attitudeOf out out out right ≡ refusedAs close
-unfolding attitudeOf lowest
+unfolding attitudeOf firstApplying
 case-K = refl

@@ -13,7 +13,7 @@ use Rattle.refusal.specs.Numbers.{directions, close}
 use Rattle.refusal.specs.declared.Refusal.{Refusal}
 use Rattle.refusal.specs.declared.Outcome.{Outcome}
 use Rattle.refusal.specs.declared.Outcome.the-variants.{Accepted, Refused as Stopped}
-use Rattle.refusal.specs.Table.{row, lowest, answered}
+use Rattle.refusal.specs.Table.{row, firstApplying, answered}
 use Rattle.refusal.specs.Laws.{Silent, accepted-silent}
 use Rattle.refusal.specs.AnswerLaws.{answerBy, answered-by}
 use Rattle.vectors.specs.declared.Vec3.{Vec3}
@@ -81,37 +81,37 @@ apart-is v1 v2 w1 w2 =
 
 -- the answer by the two conditions alone
 abbrev pub given : Bool → Bool → Matrix → Attitude
-given a b m = answered Refused (Found m) (lowest (row a directions ∷ (row b close ∷ [])))
+given a b m = answered Refused (Found m) (firstApplying (row a directions ∷ (row b close ∷ [])))
 
 abbrev pub refusedAs : ℕ → Attitude
 refusedAs n = Refused (record { number = n; place = 0 })
 
 module _ (m : Matrix) where
   eight : (a b : Bool) → (answerOf (given a b m) .number ≡ 8) ↔ (a ≡ true)
-  unfolding lowest
+  unfolding firstApplying
   eight true b = (λ e. refl, λ e. refl)
   eight false true = (λ e. absurd (eqb-false 14 8 refl e), λ e. absurd (false≢true e))
   eight false false = (λ e. absurd (eqb-false 0 8 refl e), λ e. absurd (false≢true e))
 
   fourteen : (a b : Bool) → (answerOf (given a b m) .number ≡ 14) ↔ ((a ≡ false) × (b ≡ true))
-  unfolding lowest
+  unfolding firstApplying
   fourteen true b = (λ e. absurd (eqb-false 8 14 refl e), λ e. absurd (true≢false (e .0)))
   fourteen false true = (λ e. (refl, refl), λ e. refl)
   fourteen false false = (λ e. absurd (eqb-false 0 14 refl e), λ e. absurd (false≢true (e .1)))
 
   found : (a b : Bool) → (answerOf (given a b m) .number ≡ 0) ↔ ((a ≡ false) × (b ≡ false))
-  unfolding lowest
+  unfolding firstApplying
   found true b = (λ e. absurd (eqb-false 8 0 refl e), λ e. absurd (true≢false (e .0)))
   found false true = (λ e. absurd (eqb-false 14 0 refl e), λ e. absurd (true≢false (e .1)))
   found false false = (λ e. (refl, refl), λ e. refl)
 
   close-or-found : (b : Bool) → (given false b m ≡ refusedAs close) ⊎ (given false b m ≡ Found m)
-  unfolding lowest
+  unfolding firstApplying
   close-or-found true = inl refl
   close-or-found false = inr refl
 
   within-if : (a b : Bool) (n : Matrix) → given a b m ≡ Found n → (a ≡ false → MatrixWithin 6000000000 m) → MatrixWithin 6000000000 n
-  unfolding lowest
+  unfolding firstApplying
   within-if true b n e h = absurd (eqb-false 8 0 refl (ap (λ (r : Attitude). answerOf r .number) e))
   within-if false true n e h = absurd (eqb-false 14 0 refl (ap (λ (r : Attitude). answerOf r .number) e))
   within-if false false n e h = let same : m ≡ n = cc in subst (MatrixWithin 6000000000) same (h refl)
@@ -136,7 +136,7 @@ module _ (v1 v2 w1 w2 : Vec3) where
   not-refused = found (matrixOf v1 v2 w1 w2) (outOfRange v1 v2 w1 w2) (eitherClose v1 v2 w1 w2)
 
   -- as the code meets them: the outcome of the rows first, then the matrix
-  module _ {o : Outcome} (rows : o ≡ lowest (refusalsOf v1 v2 w1 w2)) where
+  module _ {o : Outcome} (rows : o ≡ firstApplying (refusalsOf v1 v2 w1 w2)) where
     pub by-refusal : {r : Refusal} → o ≡ Stopped r → attitudeOf v1 v2 w1 w2 ≡ Refused r
     unfolding attitudeOf
     by-refusal e = rw (← rows, e)
@@ -179,5 +179,5 @@ same-close v =
     (λ i. record { x = cancelled (v .y) (v .z) i; y = cancelled (v .z) (v .x) i; z = cancelled (v .x) (v .y) i })
 
 pub same-refused : (v w1 w2 : Vec3) → InRange v v w1 w2 → attitudeOf v v w1 w2 ≡ refusedAs close
-unfolding attitudeOf lowest
+unfolding attitudeOf firstApplying
 same-refused v w1 w2 h = rw (in-range v v w1 w2 .1 h, same-close v)

@@ -5,7 +5,7 @@ use vectors::Vec3;
 ghost use mathlib.Core.Bool.{_||_};
 ghost use mathlib.Core.Path.{_≡_};
 ghost use Rattle.vectors.specs.Vectors.{Within3};
-ghost use Rattle.refusal.specs.Table.{lowest};
+ghost use Rattle.refusal.specs.Table.{firstApplying};
 ghost use Rattle.attitude.specs.Attitude.{beyond, tooClose, refusalsOf};
 
 // How far from 0 a component may lie.
@@ -13,7 +13,7 @@ const LARGEST: u64 = 1_000_000_000;
 
 // The tests in the order of the numbers.
 pub(crate) fn tested(v1: Vec3, v2: Vec3, w1: Vec3, w2: Vec3) -> Outcome
-    ensures { λ r. ⌜ r ≡ lowest (refusalsOf v1 v2 w1 w2) ⌝ }
+    ensures { λ r. ⌜ r ≡ firstApplying (refusalsOf v1 v2 w1 w2) ⌝ }
 {
     if out_of_range(v1, v2) {
         return refusal::plain(refusal::DIRECTIONS);

@@ -12,7 +12,7 @@ use Rattle.numbers.specs.Root.{Root}
 use Rattle.vectors.specs.declared.Vec3.{Vec3}
 use Rattle.vectors.specs.Triples.{tripleAt, pairDot}
 use Rattle.vectors.specs.Agree.{agreeing}
-use Rattle.refusal.specs.Table.{lowest}
+use Rattle.refusal.specs.Table.{firstApplying}
 use Rattle.refusal.specs.Laws.{Silent}
 use Rattle.counting.specs.First.{first, firstFrom}
 use Rattle.window.specs.Window.{some-below, earlier, beats, beaten}
@@ -121,7 +121,7 @@ only {directions} {bytes} {needed} {tolerance} {words} e = (e, λ r h. identifie
 
 -- A to F
 verdicts-hold : AllHold (drop 8 table) → AllHold table
-unfolding table lowest judgementOf firstOver first firstFrom kindOf peakKind edge lone beaten beats earlier some-below
+unfolding table firstApplying judgementOf firstOver first firstFrom kindOf peakKind edge lone beaten beats earlier some-below
     centroidOf brightness shiftX shiftY sum-below sumℤ-below borderSum
 verdicts-hold below = (refl, (refl, (refl, (refl, (refl, (refl, (refl, (rest-beaten, below))))))))
 
@@ -140,7 +140,7 @@ attitudes-hold below = (case-I, (ap sentOf case-I ∙ gimbal.case-I, (case-J, (a
 
 -- L to S
 searches-hold : AllHold (drop 23 table) → AllHold (drop 15 table)
-unfolding table lowest identificationOf padTo refusals.refusalsOf refusals.rowsBeside refusals.demandOk lentOf clash first firstFrom some all
+unfolding table firstApplying identificationOf padTo refusals.refusalsOf refusals.rowsBeside refusals.demandOk lentOf clash first firstFrom some all
     listOk allWithin
     catalogue.refusalsOf catalogue.lengthOk catalogue.brokenOf recordOk directionOk magnitudeOk identityRises componentOf magnitudeOf identityOf numberAt signedOf starsOf starsTo
     firstFit run row assigned standing pairsAndThrees pairs threes agreement agreeing pairDot mirroring mirrored tripleOf tripleAt
@@ -148,7 +148,7 @@ searches-hold below = (only refl, (only refl, (only refl, (only refl, (only refl
 
 -- T to W
 lone-hold : AllHold (drop 23 table)
-unfolding table lowest judgementOf firstOver first firstFrom kindOf peakKind edge lone beaten beats earlier some-below
+unfolding table firstApplying judgementOf firstOver first firstFrom kindOf peakKind edge lone beaten beats earlier some-below
     centroidOf brightness shiftX shiftY sum-below sumℤ-below borderSum
 lone-hold = (refl, (refl, (refl, (refl, tt))))
 

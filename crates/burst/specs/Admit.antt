@@ -11,7 +11,7 @@ use lib.IntN.{pos}
 use lib.ListN.{length}
 use Rattle.refusal.specs.declared.Outcome.the-variants.{Accepted}
 use Rattle.refusal.specs.Numbers as number
-use Rattle.refusal.specs.Table.{refusalOf, lowest}
+use Rattle.refusal.specs.Table.{refusalOf, firstApplying}
 use Rattle.refusal.specs.Laws.{Silent, accepted-silent}
 use Rattle.refusal.specs.AnswerLaws.{answerBy, answered-by}
 use Rattle.frame_input.specs.Input.{sizeOut}
@@ -44,26 +44,26 @@ module _ (width height samples records : ℕ) where
   abbrev size : ℕ
   size = width * height
 
-  pub size-refused : sizeOut width height ≡ true → lowest (burstRows width height samples records) ≡ refusalOf number.size 0
-  unfolding burstRows lowest
+  pub size-refused : sizeOut width height ≡ true → firstApplying (burstRows width height samples records) ≡ refusalOf number.size 0
+  unfolding burstRows firstApplying
   size-refused e = rw e
 
   module _ (e : sizeOut width height ≡ false) where
-    pub part-refused : (samples % size ≡ 0 → ⊥) → lowest (burstRows width height samples records) ≡ refusalOf number.samples 0
-    unfolding burstRows lowest
+    pub part-refused : (samples % size ≡ 0 → ⊥) → firstApplying (burstRows width height samples records) ≡ refusalOf number.samples 0
+    unfolding burstRows firstApplying
     part-refused h = rw (e, ne-eqb (samples % size) 0 h)
 
-    pub many-refused : samples % size ≡ 0 → mostFrames * size < samples → lowest (burstRows width height samples records) ≡ refusalOf number.samples 0
-    unfolding burstRows lowest
+    pub many-refused : samples % size ≡ 0 → mostFrames * size < samples → firstApplying (burstRows width height samples records) ≡ refusalOf number.samples 0
+    unfolding burstRows firstApplying
     many-refused h k = rw (e, eq-eqb (samples % size) 0 h, lt-ltb (mostFrames * size) samples k)
 
     module _ (h : samples % size ≡ 0) (k : samples ≤ mostFrames * size) where
-      pub room-refused : records < recordSize * (samples / size) → lowest (burstRows width height samples records) ≡ refusalOf number.recordsRoom 0
-      unfolding burstRows lowest
+      pub room-refused : records < recordSize * (samples / size) → firstApplying (burstRows width height samples records) ≡ refusalOf number.recordsRoom 0
+      unfolding burstRows firstApplying
       room-refused r = rw (e, eq-eqb (samples % size) 0 h, le-ltb (mostFrames * size) samples k, lt-ltb records (recordSize * (samples / size)) r)
 
-      pub none-refused : recordSize * (samples / size) ≤ records → lowest (burstRows width height samples records) ≡ Accepted
-      unfolding burstRows lowest
+      pub none-refused : recordSize * (samples / size) ≤ records → firstApplying (burstRows width height samples records) ≡ Accepted
+      unfolding burstRows firstApplying
       none-refused r = rw (e, eq-eqb (samples % size) 0 h, le-ltb (mostFrames * size) samples k, le-ltb records (recordSize * (samples / size)) r)
 
   length-says : (a b : Bool) → not a || b ≡ false → (a ≡ true) × (b ≡ false)
@@ -71,7 +71,7 @@ module _ (width height samples records : ℕ) where
   length-says false b h = let z : _≡_ {A = Bool} true false = h in (cc, cc)
 
   -- an accepted burst has sides in range and whole frames, at most 64, and its room is long enough
-  module _ (h : lowest (burstRows width height samples records) ≡ Accepted) where
+  module _ (h : firstApplying (burstRows width height samples records) ≡ Accepted) where
     pub accepted-size : sizeOut width height ≡ false
     unfolding burstRows Silent
     accepted-size = accepted-silent (burstRows width height samples records) h .0

@@ -4,7 +4,7 @@ use mathlib.Core.Path.{_≡_, refl, ap, _∙_}
 use mathlib.Core.List.{List, [], _∷_, _++_}
 use Prim.Native.Nat.{ℕ, _*_}
 use lib.ListN.{drop}
-use Rattle.refusal.specs.Table.{lowest, answered}
+use Rattle.refusal.specs.Table.{firstApplying, answered}
 use Rattle.catalogue.specs.Alike.{Alike}
 use Rattle.burst_records.specs.Record.{recordSize}
 use Rattle.tracker.specs.declared.Settings.{Settings}
@@ -32,10 +32,10 @@ module _ {first second : List ℕ} (a : Alike first second) (s : Settings) where
     unfolding recordsAfter
     records-same =
         let c = call samples first s room records in
-        (λ j. answered (λ _. records) (records-alike (frames c) room j ++ drop (recordSize * framesIn c) records) (lowest (refusalsOf c)))
+        (λ j. answered (λ _. records) (records-alike (frames c) room j ++ drop (recordSize * framesIn c) records) (firstApplying (refusalsOf c)))
 
     pub room-same : roomAfter (call samples first s room records) ≡ roomAfter (call samples second s room records)
     unfolding roomAfter
     room-same =
         let c = call samples first s room records in
-        (λ j. answered (λ _. room) (room-alike (frames c) room j) (lowest (refusalsOf c)))
+        (λ j. answered (λ _. room) (room-alike (frames c) room j) (firstApplying (refusalsOf c)))

@@ -6,7 +6,7 @@ use lib.Dec.{eqb, ltb}
 use lib.IntN.{pos}
 use lib.ListN.{length, take, drop}
 use Rattle.refusal.specs.Numbers as number
-use Rattle.refusal.specs.Table.{Row, row, lowest, answered}
+use Rattle.refusal.specs.Table.{Row, row, firstApplying, answered}
 use Rattle.refusal.specs.Answer.{Answer, refusedWith, acceptedWith}
 use Rattle.frame_input.specs.Input.{sizeOut}
 use Rattle.burst_records.specs.Record.{recordSize, recordOf, encoded}
@@ -87,7 +87,7 @@ refusalsOf c = burstRows (c .settings .width) (c .settings .height) (length (c .
 
 -- the number of records, or the refusal
 unfoldable pub burstOf : Call → Burst
-burstOf c = answered Refused (Records (framesIn c)) (lowest (refusalsOf c))
+burstOf c = answered Refused (Records (framesIn c)) (firstApplying (refusalsOf c))
 
 -- ---- in document 01's own terms
 
@@ -110,7 +110,7 @@ unfoldable pub recordsAfter : Call → List ℕ
 recordsAfter c =
     answered (λ _. c .records)
     (recordsOf (c .catalogue) (c .settings) (frames c) (c .room) ++ drop (recordSize * framesIn c) (c .records))
-    (lowest (refusalsOf c))
+    (firstApplying (refusalsOf c))
 
 unfoldable pub roomAfter : Call → List ℕ
-roomAfter c = answered (λ _. c .room) (roomBehind (c .catalogue) (c .settings) (frames c) (c .room)) (lowest (refusalsOf c))
+roomAfter c = answered (λ _. c .room) (roomBehind (c .catalogue) (c .settings) (frames c) (c .room)) (firstApplying (refusalsOf c))

@@ -16,7 +16,7 @@ use mir.Val.{SFits}
 use Rattle.refusal.specs.declared.Refusal.{Refusal}
 use Rattle.refusal.specs.declared.Outcome.{Outcome}
 use Rattle.refusal.specs.declared.Outcome.the-variants as outcome
-use Rattle.refusal.specs.Table.{lowest, answered}
+use Rattle.refusal.specs.Table.{firstApplying, answered}
 use Rattle.numbers.specs.Within.{Within, within-fits}
 use Rattle.attitude.specs.declared.Matrix.{Matrix}
 use Rattle.attitude.specs.Attitude.{entriesOf}
@@ -114,7 +114,7 @@ tracked-holds c = holds-by (trackedOf c .outcome) (trackedOf c .matrix) (tracked
 
 -- ---- an accepted burst
 
-module _ (c : Call) (h : lowest (refusalsOf c) ≡ outcome.Accepted) where
+module _ (c : Call) (h : firstApplying (refusalsOf c) ≡ outcome.Accepted) where
   pub accepted-answer : burstOf c ≡ Records (framesIn c)
   unfolding burstOf
   accepted-answer = rw h
@@ -152,7 +152,7 @@ module _ (c : Call) (h : lowest (refusalsOf c) ≡ outcome.Accepted) where
 
 -- ---- a refused burst
 
-module _ (c : Call) (q : Refusal) (h : lowest (refusalsOf c) ≡ outcome.Refused q) where
+module _ (c : Call) (q : Refusal) (h : firstApplying (refusalsOf c) ≡ outcome.Refused q) where
   pub refused-answer : burstOf c ≡ Refused q
   unfolding burstOf
   refused-answer = rw h
@@ -174,7 +174,7 @@ module _ (c : Call) (e : sizeOut (c .settings .width) (c .settings .height) ≡ 
   no-rest : length (c .samples) % sizeOf c ≡ 0
   no-rest = ap (λ (n : ℕ). n % sizeOf c) none ∙ zero-mod (sizeOf c)
 
-  pub empty-accepted : lowest (refusalsOf c) ≡ outcome.Accepted
+  pub empty-accepted : firstApplying (refusalsOf c) ≡ outcome.Accepted
   empty-accepted = none-refused (c .settings .width) (c .settings .height) (length (c .samples)) (length (c .records)) e no-rest (omega arith) (omega (arith, no-frames))
 
   pub empty-answer : burstOf c ≡ Records 0

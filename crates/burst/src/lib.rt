@@ -7,7 +7,7 @@ ghost use mathlib.Core.Path.{_≡_};
 ghost use mathlib.Core.List.{_++_};
 ghost use Prim.Native.Nat.{_*_, _≤_};
 ghost use lib.ListN.{length, drop};
-ghost use Rattle.refusal.specs.Table.{lowest};
+ghost use Rattle.refusal.specs.Table.{firstApplying};
 ghost use Rattle.burst_records.specs.Record.{recordSize};
 ghost use Rattle.burst.specs.Burst.{framesOf, recordsOf, roomBehind, burstRows, call, burstOf, answerOf, answerFor, recordsAfter, roomAfter};
 ghost use Rattle.burst.specs.Admit.{Whole};
@@ -23,7 +23,7 @@ pub enum Burst {
 
 // 1, 2 and 18, for so many samples and a room of so many bytes.
 fn outcome(width: usize, height: usize, samples: usize, records: usize) -> Outcome
-    ensures { λ r. ⌜ r ≡ lowest (burstRows width height samples records) ⌝ }
+    ensures { λ r. ⌜ r ≡ firstApplying (burstRows width height samples records) ⌝ }
 {
     if !frame_input::size_ok(width, height) {
         return refusal::plain(refusal::SIZE);

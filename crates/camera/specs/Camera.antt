@@ -4,7 +4,7 @@ use mathlib.Core.Bool.{cond, not, _&&_}
 use mathlib.Core.List.{List, [], _∷_}
 use lib.IntN.{ℤ, pos, _-ℤ_}
 use Rattle.refusal.specs.Numbers as number
-use Rattle.refusal.specs.Table.{Row, row, lowest, answered}
+use Rattle.refusal.specs.Table.{Row, row, firstApplying, answered}
 use Rattle.refusal.specs.Answer.{Answer, refusedWith, acceptedWith}
 use Rattle.direction.specs.declared.Direction.{Direction}
 use Rattle.direction.specs.declared.Direction.the-variants.{Refused, Found}
@@ -19,7 +19,7 @@ unfoldable pub refusalsOf : ℤ → ℤ → Lens → ℤ → ℤ → List Row
 refusalsOf cx cy l x y = row (not (lensOk l)) number.lens ∷ row (not (positionOk cx cy && positionOk x y)) number.settings ∷ []
 
 unfoldable pub directionOf : ℤ → ℤ → Lens → ℤ → ℤ → Direction
-directionOf cx cy l x y = answered Refused (Found (towardOf (x -ℤ cx) (y -ℤ cy) (pos (focalNumber l)))) (lowest (refusalsOf cx cy l x y))
+directionOf cx cy l x y = answered Refused (Found (towardOf (x -ℤ cx) (y -ℤ cy) (pos (focalNumber l)))) (firstApplying (refusalsOf cx cy l x y))
 
 abbrev pub lensOut : Direction
 lensOut = Refused (record { number = number.lens; place = 0 })

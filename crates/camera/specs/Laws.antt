@@ -5,8 +5,8 @@ use Prim.Native.Nat.{ℕ, _≤_}
 use lib.IntN.{ℤ, pos, _-ℤ_}
 use Rattle.counting.specs.Contradiction.{contradiction}
 use Rattle.refusal.specs.declared.Outcome.{Outcome}
-use Rattle.refusal.specs.Table.{lowest, answered}
-use Rattle.refusal.specs.Laws.{lowest-here, lowest-next}
+use Rattle.refusal.specs.Table.{firstApplying, answered}
+use Rattle.refusal.specs.Laws.{applying-here, applying-next}
 use Rattle.refusal.specs.AnswerLaws.{answerBy, answered-by}
 use Rattle.vectors.specs.declared.Vec3.{Vec3}
 use Rattle.vectors.specs.Vectors.{Within3}
@@ -29,19 +29,19 @@ pub focal-between : (l : Lens) → lensOk l ≡ true → Between 16384 4194304 (
 focal-between l h = let r = focal-range l h in record { at = focalNumber l; is = refl; above = r .0; below = r .1 }
 
 module _ (cx cy : ℤ) (l : Lens) (x y : ℤ) where
-  given : {o : Outcome} → lowest (refusalsOf cx cy l x y) ≡ o → directionOf cx cy l x y ≡ answered Refused (Found (towardOf (x -ℤ cx) (y -ℤ cy) (pos (focalNumber l)))) o
+  given : {o : Outcome} → firstApplying (refusalsOf cx cy l x y) ≡ o → directionOf cx cy l x y ≡ answered Refused (Found (towardOf (x -ℤ cx) (y -ℤ cy) (pos (focalNumber l)))) o
   unfolding directionOf
   given e = ap (λ (o : Outcome). answered Refused (Found (towardOf (x -ℤ cx) (y -ℤ cy) (pos (focalNumber l)))) o) e
 
   -- 19 comes first
   pub lens-out : lensOk l ≡ false → directionOf cx cy l x y ≡ lensOut
   unfolding refusalsOf
-  lens-out e = given (lowest-here _ _ (ap not e))
+  lens-out e = given (applying-here _ _ (ap not e))
 
   -- any other lens stands for its whole focal length
   pub by-whole : lensOk l ≡ true → directionOf cx cy l x y ≡ whole.directionOf cx cy (pos (focalNumber l)) x y
   unfolding refusalsOf whole.directionOf whole.refusalsOf
-  by-whole e = given (lowest-next _ (whole.refusalsOf cx cy x y) (ap not e))
+  by-whole e = given (applying-next _ (whole.refusalsOf cx cy x y) (ap not e))
 
   pub answers : answerOf (directionOf cx cy l x y) ≡ answerFor cx cy l x y
   unfolding directionOf refusalsOf answerBy

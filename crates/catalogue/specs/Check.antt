@@ -6,7 +6,7 @@ use lib.Dec.{leb, ltb, eqb}
 use lib.IntN.{pos}
 use lib.ListN.{length}
 use Rattle.refusal.specs.Numbers.{catalogue, recordRule}
-use Rattle.refusal.specs.Table.{Row, row, rowAt, lowest, answered}
+use Rattle.refusal.specs.Table.{Row, row, rowAt, firstApplying, answered}
 use Rattle.refusal.specs.Answer.{Answer, refusedWith, acceptedWith}
 use Rattle.catalogue.specs.declared.Checked.{Checked}
 use Rattle.catalogue.specs.declared.Checked.the-variants.{Refused, Records}
@@ -30,7 +30,7 @@ refusalsOf bytes = row (not (lengthOk (length bytes))) catalogue ∷ rowAt (reco
 
 -- the refusal, or how many records there are
 unfoldable pub checkedOf : List ℕ → Checked
-checkedOf bytes = answered Refused (Records (recordsIn bytes)) (lowest (refusalsOf bytes))
+checkedOf bytes = answered Refused (Records (recordsIn bytes)) (firstApplying (refusalsOf bytes))
 
 -- ---- in document 01's own terms
 

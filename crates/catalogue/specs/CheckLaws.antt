@@ -14,7 +14,7 @@ use Rattle.refusal.specs.declared.Outcome.{Outcome}
 use Rattle.refusal.specs.declared.Refusal.{Refusal}
 use Rattle.refusal.specs.declared.Outcome.the-variants.{Accepted}
 use Rattle.refusal.specs.Numbers.{catalogue, recordRule}
-use Rattle.refusal.specs.Table.{refusalOf, lowest, answered}
+use Rattle.refusal.specs.Table.{refusalOf, firstApplying, answered}
 use Rattle.catalogue.specs.declared.Checked.the-variants.{Refused, Records}
 use Rattle.catalogue.specs.Format.{recordsIn, identityOf}
 use Rattle.catalogue.specs.Rule.{recordOk}
@@ -96,9 +96,9 @@ module _ (bytes : List ℕ) where
 
 -- the three ways that it can go
 data Way (bytes : List ℕ) : Type 0 where
-  length-wrong : (LengthRule bytes → ⊥) → lowest (refusalsOf bytes) ≡ refusalOf catalogue 0 → Way bytes
-  record-wrong : LengthRule bytes → FirstBroken bytes (brokenOf bytes) → lowest (refusalsOf bytes) ≡ refusalOf recordRule (brokenOf bytes) → Way bytes
-  all-right : Valid bytes → lowest (refusalsOf bytes) ≡ Accepted → Way bytes
+  length-wrong : (LengthRule bytes → ⊥) → firstApplying (refusalsOf bytes) ≡ refusalOf catalogue 0 → Way bytes
+  record-wrong : LengthRule bytes → FirstBroken bytes (brokenOf bytes) → firstApplying (refusalsOf bytes) ≡ refusalOf recordRule (brokenOf bytes) → Way bytes
+  all-right : Valid bytes → firstApplying (refusalsOf bytes) ≡ Accepted → Way bytes
 
 way : (bytes : List ℕ) → Way bytes
 way bytes = go (lengthOk (length bytes)) refl (decLt (brokenOf bytes) (recordsIn bytes))
@@ -124,15 +124,15 @@ never n p e f = contradiction (cc)
 
 module _ (bytes : List ℕ) where
   -- number 6
-  pub length-refused : (LengthRule bytes → ⊥) → lowest (refusalsOf bytes) ≡ refusalOf catalogue 0
+  pub length-refused : (LengthRule bytes → ⊥) → firstApplying (refusalsOf bytes) ≡ refusalOf catalogue 0
   length-refused n = go (way bytes)
     where
-      go : Way bytes → lowest (refusalsOf bytes) ≡ refusalOf catalogue 0
+      go : Way bytes → firstApplying (refusalsOf bytes) ≡ refusalOf catalogue 0
       go (length-wrong w e) = e
       go (record-wrong s f e) = absurd (n s)
       go (all-right v e) = absurd (n (v .size))
 
-  pub refused-length : (p : ℕ) → lowest (refusalsOf bytes) ≡ refusalOf catalogue p → LengthRule bytes → ⊥
+  pub refused-length : (p : ℕ) → firstApplying (refusalsOf bytes) ≡ refusalOf catalogue p → LengthRule bytes → ⊥
   refused-length p h s = go (way bytes)
     where
       go : Way bytes → ⊥
@@ -141,12 +141,12 @@ module _ (bytes : List ℕ) where
       go (all-right v e) = never catalogue p h e
 
   -- number 7
-  pub record-refused : (p : ℕ) → LengthRule bytes → FirstBroken bytes p → lowest (refusalsOf bytes) ≡ refusalOf recordRule p
+  pub record-refused : (p : ℕ) → LengthRule bytes → FirstBroken bytes p → firstApplying (refusalsOf bytes) ≡ refusalOf recordRule p
   record-refused p s f =
       let e = broken-first bytes f in
       one-broken bytes (length-ok bytes s) (omega (arith, f .inside)) ∙ ap (refusalOf recordRule) (sym e)
 
-  pub refused-record : (p : ℕ) → lowest (refusalsOf bytes) ≡ refusalOf recordRule p → LengthRule bytes × FirstBroken bytes p
+  pub refused-record : (p : ℕ) → firstApplying (refusalsOf bytes) ≡ refusalOf recordRule p → LengthRule bytes × FirstBroken bytes p
   refused-record p h = go (way bytes)
     where
       go : Way bytes → LengthRule bytes × FirstBroken bytes p
@@ -155,10 +155,10 @@ module _ (bytes : List ℕ) where
       go (all-right v e) = never recordRule p h e
 
   -- neither
-  pub valid-accepted : Valid bytes → lowest (refusalsOf bytes) ≡ Accepted
+  pub valid-accepted : Valid bytes → firstApplying (refusalsOf bytes) ≡ Accepted
   valid-accepted v = none-broken bytes (length-ok bytes (v .size)) (valid-kept bytes v)
 
-  pub accepted-valid : lowest (refusalsOf bytes) ≡ Accepted → Valid bytes
+  pub accepted-valid : firstApplying (refusalsOf bytes) ≡ Accepted → Valid bytes
   accepted-valid h = go (way bytes)
     where
       go : Way bytes → Valid bytes
@@ -171,16 +171,16 @@ module _ (bytes : List ℕ) where
   pub valid-checked : Valid bytes → checkedOf bytes ≡ Records (recordsIn bytes)
   valid-checked v = checked bytes (valid-accepted v)
 
-  answer : (o : Outcome) → lowest (refusalsOf bytes) ≡ o → (n : ℕ) → answered Refused (Records (recordsIn bytes)) o ≡ Records n → Valid bytes × (n ≡ recordsIn bytes)
+  answer : (o : Outcome) → firstApplying (refusalsOf bytes) ≡ o → (n : ℕ) → answered Refused (Records (recordsIn bytes)) o ≡ Records n → Valid bytes × (n ≡ recordsIn bytes)
   answer Accepted e n h = (accepted-valid e, cc)
   answer (Outcome.Refused r) e n h = contradiction (cc)
 
   pub checked-valid : (n : ℕ) → checkedOf bytes ≡ Records n → Valid bytes × (n ≡ recordsIn bytes)
-  checked-valid n h = answer (lowest (refusalsOf bytes)) refl n (sym (checked bytes refl) ∙ h)
+  checked-valid n h = answer (firstApplying (refusalsOf bytes)) refl n (sym (checked bytes refl) ∙ h)
 
-  refusal : (o : Outcome) → lowest (refusalsOf bytes) ≡ o → (r : Refusal) → answered Refused (Records (recordsIn bytes)) o ≡ Refused r → lowest (refusalsOf bytes) ≡ Outcome.Refused r
+  refusal : (o : Outcome) → firstApplying (refusalsOf bytes) ≡ o → (r : Refusal) → answered Refused (Records (recordsIn bytes)) o ≡ Refused r → firstApplying (refusalsOf bytes) ≡ Outcome.Refused r
   refusal Accepted e r h = contradiction (cc)
   refusal (Outcome.Refused q) e r h = let d : q ≡ r = cc in e ∙ ap Outcome.Refused d
 
-  pub checked-refused : (r : Refusal) → checkedOf bytes ≡ Refused r → lowest (refusalsOf bytes) ≡ Outcome.Refused r
-  checked-refused r h = refusal (lowest (refusalsOf bytes)) refl r (sym (checked bytes refl) ∙ h)
+  pub checked-refused : (r : Refusal) → checkedOf bytes ≡ Refused r → firstApplying (refusalsOf bytes) ≡ Outcome.Refused r
+  checked-refused r h = refusal (firstApplying (refusalsOf bytes)) refl r (sym (checked bytes refl) ∙ h)

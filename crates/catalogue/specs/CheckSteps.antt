@@ -8,8 +8,8 @@ use lib.ListN.{length}
 use Rattle.refusal.specs.declared.Outcome.{Outcome}
 use Rattle.refusal.specs.declared.Outcome.the-variants.{Accepted}
 use Rattle.refusal.specs.Numbers.{catalogue, recordRule}
-use Rattle.refusal.specs.Table.{refusalOf, rowAt, lowest, answered}
-use Rattle.refusal.specs.Laws.{lowest-here, lowest-next, silent-accepted, Silent}
+use Rattle.refusal.specs.Table.{refusalOf, rowAt, firstApplying, answered}
+use Rattle.refusal.specs.Laws.{applying-here, applying-next, silent-accepted, Silent}
 use Rattle.refusal.specs.AnswerLaws.{answerBy, answered-by}
 use Rattle.catalogue.specs.declared.Checked.the-variants.{Refused, Records}
 use Rattle.catalogue.specs.Format.{recordsIn}
@@ -17,7 +17,7 @@ use Rattle.catalogue.specs.Check.{lengthOk, brokenOf, recordBroken, refu
 
 module _ (bytes : List ℕ) where
   -- what the check gives for an outcome
-  pub checked : {o : Outcome} → lowest (refusalsOf bytes) ≡ o → checkedOf bytes ≡ answered Refused (Records (recordsIn bytes)) o
+  pub checked : {o : Outcome} → firstApplying (refusalsOf bytes) ≡ o → checkedOf bytes ≡ answered Refused (Records (recordsIn bytes)) o
   unfolding checkedOf
   checked e = ap (λ (o : Outcome). answered Refused (Records (recordsIn bytes)) o) e
 
@@ -26,18 +26,18 @@ module _ (bytes : List ℕ) where
   unfolding checkedOf refusalsOf answerBy
   answers = answered-by Refused (Records (recordsIn bytes)) answerOf _ (λ r. refl) refl (refusalsOf bytes)
 
-  pub wrong-length : lengthOk (length bytes) ≡ false → lowest (refusalsOf bytes) ≡ refusalOf catalogue 0
+  pub wrong-length : lengthOk (length bytes) ≡ false → firstApplying (refusalsOf bytes) ≡ refusalOf catalogue 0
   unfolding refusalsOf
-  wrong-length e = lowest-here _ _ (ap not e)
+  wrong-length e = applying-here _ _ (ap not e)
 
   module _ (e : lengthOk (length bytes) ≡ true) where
-    next : {o : Outcome} → lowest (rowAt (recordBroken bytes) recordRule (brokenOf bytes) ∷ []) ≡ o → lowest (refusalsOf bytes) ≡ o
+    next : {o : Outcome} → firstApplying (rowAt (recordBroken bytes) recordRule (brokenOf bytes) ∷ []) ≡ o → firstApplying (refusalsOf bytes) ≡ o
     unfolding refusalsOf
-    next h = lowest-next _ _ (ap not e) ∙ h
+    next h = applying-next _ _ (ap not e) ∙ h
 
-    pub one-broken : brokenOf bytes < recordsIn bytes → lowest (refusalsOf bytes) ≡ refusalOf recordRule (brokenOf bytes)
-    one-broken h = next (lowest-here _ _ (lt-ltb _ _ h))
+    pub one-broken : brokenOf bytes < recordsIn bytes → firstApplying (refusalsOf bytes) ≡ refusalOf recordRule (brokenOf bytes)
+    one-broken h = next (applying-here _ _ (lt-ltb _ _ h))
 
-    pub none-broken : recordsIn bytes ≤ brokenOf bytes → lowest (refusalsOf bytes) ≡ Accepted
+    pub none-broken : recordsIn bytes ≤ brokenOf bytes → firstApplying (refusalsOf bytes) ≡ Accepted
     unfolding Silent
     none-broken h = next (silent-accepted _ (le-ltb _ _ h, tt))

@@ -6,7 +6,7 @@ use lib.Dec.{ltb}
 use lib.IntN.{pos}
 use lib.ListN.{length}
 use Rattle.refusal.specs.Numbers as number
-use Rattle.refusal.specs.Table.{Row, row, lowest, answered}
+use Rattle.refusal.specs.Table.{Row, row, firstApplying, answered}
 use Rattle.refusal.specs.Answer.{Answer, refusedWith, acceptedWith}
 use Rattle.catalogue.specs.Check.{lengthOk, recordBroken, brokenOf}
 use Rattle.catalogue.specs.Check as catalogue
@@ -29,11 +29,11 @@ refusalsOf first second size = cataloguesRefused first second ++ (row (roomShort
 
 -- the refusal, or how many records the list has
 unfoldable pub comparedOf : List ℕ → List ℕ → ℕ → Compared
-comparedOf first second size = answered Refused (Records (length (listed first second))) (lowest (refusalsOf first second size))
+comparedOf first second size = answered Refused (Records (length (listed first second))) (firstApplying (refusalsOf first second size))
 
 -- the list at the front and the other bytes as they were; a refusal changes no byte
 unfoldable pub roomAfter : List ℕ → List ℕ → List ℕ → List ℕ
-roomAfter first second room = answered (λ _. room) (atFront (changesOf first second) room) (lowest (refusalsOf first second (length room)))
+roomAfter first second room = answered (λ _. room) (atFront (changesOf first second) room) (firstApplying (refusalsOf first second (length room)))
 
 -- ---- in the documents' own terms
 

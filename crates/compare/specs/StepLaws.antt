@@ -1,4 +1,4 @@
--- The step from a cut of both catalogues: it takes the lowest identity from there on, tells of it what the list does, and leaves both cut behind it.
+-- The step from a cut of both catalogues: it takes the firstApplying identity from there on, tells of it what the list does, and leaves both cut behind it.
 -- Assumes nothing.
 use mathlib.Core.Path.{_≡_, refl, sym, subst, _∙_}
 use mathlib.Core.List.{List}

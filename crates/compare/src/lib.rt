@@ -8,7 +8,7 @@ use refusal::Outcome;
 use refusal::Refusal;
 ghost use mathlib.Core.Path.{_≡_};
 ghost use lib.ListN.{length};
-ghost use Rattle.refusal.specs.Table.{lowest};
+ghost use Rattle.refusal.specs.Table.{firstApplying};
 ghost use Rattle.compare.specs.Compare.{cataloguesRefused, comparedOf, roomAfter, answerOf, answerFor};
 
 // The bytes of a record of the list.
@@ -23,7 +23,7 @@ pub enum Compared {
 
 // The refusal of the first catalogue; only where it is valid that of the second.
 fn judge(first: &[u8], second: &[u8]) -> Outcome
-    ensures { λ r. ⌜ r ≡ lowest (cataloguesRefused (now (first .entry)) (now (second .entry))) ⌝ }
+    ensures { λ r. ⌜ r ≡ firstApplying (cataloguesRefused (now (first .entry)) (now (second .entry))) ⌝ }
 {
     let checked = catalogue::check(first);
     if let Checked::Refused(r) = checked {

@@ -6,7 +6,7 @@ use lib.Dec.{eqb}
 use lib.IntN.{ℤ, pos}
 use lib.ListN.{length}
 use Rattle.refusal.specs.Numbers as number
-use Rattle.refusal.specs.Table.{Row, row, lowest, answered}
+use Rattle.refusal.specs.Table.{Row, row, firstApplying, answered}
 use Rattle.refusal.specs.Answer.{Answer, refusedWith, acceptedWith}
 use Rattle.catalogue.specs.Check.{lengthOk, recordBroken, brokenOf}
 use Rattle.catalogue.specs.Check as catalogue
@@ -24,11 +24,11 @@ refusalsOf bytes limit closeness = catalogue.refusalsOf bytes ++ (row (noneKept 
 
 -- the refusal, or how many records are kept
 unfoldable pub shortenedOf : List ℕ → ℤ → ℤ → Shortened
-shortenedOf bytes limit closeness = answered Refused (Kept (length (keptIn bytes limit closeness))) (lowest (refusalsOf bytes limit closeness))
+shortenedOf bytes limit closeness = answered Refused (Kept (length (keptIn bytes limit closeness))) (firstApplying (refusalsOf bytes limit closeness))
 
 -- the kept records at the front, and 255 behind them; a refusal changes no byte
 unfoldable pub bufferAfter : List ℕ → ℤ → ℤ → List ℕ
-bufferAfter bytes limit closeness = answered (λ _. bytes) (cutOf bytes limit closeness) (lowest (refusalsOf bytes limit closeness))
+bufferAfter bytes limit closeness = answered (λ _. bytes) (cutOf bytes limit closeness) (firstApplying (refusalsOf bytes limit closeness))
 
 -- the same of a catalogue that is valid
 unfoldable pub shortenedFrom : List ℕ → ℤ → ℤ → Shortened

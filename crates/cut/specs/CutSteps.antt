@@ -12,8 +12,8 @@ use Rattle.refusal.specs.declared.Outcome.{Outcome}
 use Rattle.refusal.specs.declared.Outcome.the-variants.{Accepted}
 use Rattle.refusal.specs.declared.Refusal.{Refusal}
 use Rattle.refusal.specs.Numbers as number
-use Rattle.refusal.specs.Table.{row, lowest, answered}
-use Rattle.refusal.specs.Laws.{lowest-append}
+use Rattle.refusal.specs.Table.{row, firstApplying, answered}
+use Rattle.refusal.specs.Laws.{applying-append}
 use Rattle.refusal.specs.AnswerLaws.{answerBy, answered-by}
 use Rattle.sorting.specs.Below.{below-same}
 use Rattle.words.specs.Front.{atFront}
@@ -82,12 +82,12 @@ module _ (bytes : List ℕ) (limit closeness : ℤ) where
 
   -- ---- any bytes
 
-  joined : {o : Outcome} → lowest (catalogue.refusalsOf bytes) ≡ o
-      → lowest (refusalsOf bytes limit closeness) ≡ answered Outcome.Refused (lowest (row (noneKept bytes limit closeness) number.nothingKept ∷ [])) o
+  joined : {o : Outcome} → firstApplying (catalogue.refusalsOf bytes) ≡ o
+      → firstApplying (refusalsOf bytes limit closeness) ≡ answered Outcome.Refused (firstApplying (row (noneKept bytes limit closeness) number.nothingKept ∷ [])) o
   unfolding refusalsOf
   joined e =
-      lowest-append (catalogue.refusalsOf bytes) (row (noneKept bytes limit closeness) number.nothingKept ∷ [])
-      ∙ ap (answered Outcome.Refused (lowest (row (noneKept bytes limit closeness) number.nothingKept ∷ []))) e
+      applying-append (catalogue.refusalsOf bytes) (row (noneKept bytes limit closeness) number.nothingKept ∷ [])
+      ∙ ap (answered Outcome.Refused (firstApplying (row (noneKept bytes limit closeness) number.nothingKept ∷ []))) e
 
   -- the answer in the documents' terms
   pub answers : answerOf (shortenedOf bytes limit closeness) ≡ answerFor bytes limit closeness
@@ -95,7 +95,7 @@ module _ (bytes : List ℕ) (limit closeness : ℤ) where
   answers = answered-by Refused (Kept kept) answerOf _ (λ r. refl) refl (refusalsOf bytes limit closeness)
 
   -- the catalogue is refused
-  module _ (r : Refusal) (e : lowest (catalogue.refusalsOf bytes) ≡ Outcome.Refused r) where
+  module _ (r : Refusal) (e : firstApplying (catalogue.refusalsOf bytes) ≡ Outcome.Refused r) where
     pub catalogue-refused : shortenedOf bytes limit closeness ≡ Refused r
     unfolding shortenedOf
     catalogue-refused = ap (answered Refused (Kept kept)) (joined e)
@@ -107,7 +107,7 @@ module _ (bytes : List ℕ) (limit closeness : ℤ) where
   -- it is valid
   module _ (v : Valid bytes) where
     pub valid-shortened : shortenedOf bytes limit closeness ≡ shortenedFrom bytes limit closeness
-    unfolding shortenedOf shortenedFrom lowest
+    unfolding shortenedOf shortenedFrom firstApplying
     valid-shortened = ap (answered Refused (Kept kept)) (joined (valid-accepted bytes v)) ∙ go (noneKept bytes limit closeness)
       where
         go : (t : Bool) → answered Refused (Kept kept) (answered Outcome.Refused (cond t (Outcome.Refused (record { number = number.nothingKept; place = 0 })) Accepted) Accepted)
@@ -116,7 +116,7 @@ module _ (bytes : List ℕ) (limit closeness : ℤ) where
         go false = refl
 
     pub valid-buffer : bufferAfter bytes limit closeness ≡ bufferFrom bytes limit closeness
-    unfolding bufferAfter bufferFrom lowest
+    unfolding bufferAfter bufferFrom firstApplying
     valid-buffer = ap (answered (λ _. bytes) (cutOf bytes limit closeness)) (joined (valid-accepted bytes v)) ∙ go (noneKept bytes limit closeness)
       where
         go : (t : Bool) → answered (λ _. bytes) (cutOf bytes limit closeness) (answered Outcome.Refused (cond t (Outcome.Refused (record { number = number.nothingKept; place = 0 })) Accepted) Accepted)

@@ -3,7 +3,7 @@ use mathlib.Core.Bool.{cond, not, _&&_}
 use mathlib.Core.List.{List, [], _∷_}
 use lib.IntN.{ℤ, _-ℤ_}
 use Rattle.refusal.specs.Numbers.{settings}
-use Rattle.refusal.specs.Table.{Row, row, lowest, answered}
+use Rattle.refusal.specs.Table.{Row, row, firstApplying, answered}
 use Rattle.refusal.specs.Answer.{Answer, refusedWith, acceptedWith}
 use Rattle.vectors.specs.declared.Vec3.{Vec3}
 use Rattle.direction.specs.declared.Direction.{Direction}
@@ -17,7 +17,7 @@ refusalsOf cx cy x y = row (not (positionOk cx cy && positionOk x y)) settings �
 
 -- X and Y are the position as seen from the centre
 unfoldable pub directionOf : ℤ → ℤ → ℤ → ℤ → ℤ → Direction
-directionOf cx cy f x y = answered Refused (Found (towardOf (x -ℤ cx) (y -ℤ cy) f)) (lowest (refusalsOf cx cy x y))
+directionOf cx cy f x y = answered Refused (Found (towardOf (x -ℤ cx) (y -ℤ cy) f)) (firstApplying (refusalsOf cx cy x y))
 
 abbrev pub outOfRange : Direction
 outOfRange = Refused (record { number = settings; place = 0 })

@@ -7,8 +7,8 @@ use Rattle.counting.specs.Contradiction.{contradiction}
 use Rattle.refusal.specs.declared.Refusal.{Refusal}
 use Rattle.refusal.specs.declared.Outcome.{Outcome}
 use Rattle.refusal.specs.Numbers.{settings}
-use Rattle.refusal.specs.Table.{lowest, answered}
-use Rattle.refusal.specs.Laws.{lowest-here, silent-accepted, Silent}
+use Rattle.refusal.specs.Table.{firstApplying, answered}
+use Rattle.refusal.specs.Laws.{applying-here, silent-accepted, Silent}
 use Rattle.refusal.specs.AnswerLaws.{answerBy, answered-by}
 use Rattle.vectors.specs.declared.Vec3.{Vec3}
 use Rattle.vectors.specs.Vectors.{Within3}
@@ -22,13 +22,13 @@ use Rattle.direction.specs.Direction.{refusalsOf, directionOf, outOfRang
 module _ (cx cy f x y : ℤ) where
   -- ---- one test at a time, as the code meets them
 
-  given : {o : Outcome} → lowest (refusalsOf cx cy x y) ≡ o → directionOf cx cy f x y ≡ answered Refused (Found (towardOf (x -ℤ cx) (y -ℤ cy) f)) o
+  given : {o : Outcome} → firstApplying (refusalsOf cx cy x y) ≡ o → directionOf cx cy f x y ≡ answered Refused (Found (towardOf (x -ℤ cx) (y -ℤ cy) f)) o
   unfolding directionOf
   given e = ap (λ (o : Outcome). answered Refused (Found (towardOf (x -ℤ cx) (y -ℤ cy) f)) o) e
 
   out : positionOk cx cy && positionOk x y ≡ false → directionOf cx cy f x y ≡ outOfRange
   unfolding refusalsOf
-  out e = given (lowest-here _ _ (ap not e))
+  out e = given (applying-here _ _ (ap not e))
 
   pub centre-out : positionOk cx cy ≡ false → directionOf cx cy f x y ≡ outOfRange
   centre-out e = out (rw e)

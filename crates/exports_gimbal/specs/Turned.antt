@@ -7,14 +7,14 @@ use lib.Ieee.{Float}
 use lib.ListN.{length}
 use Rattle.refusal.specs.declared.Outcome.{Outcome}
 use Rattle.refusal.specs.Numbers as number
-use Rattle.refusal.specs.Table.{row, lowest, answered}
+use Rattle.refusal.specs.Table.{row, firstApplying, answered}
 use Rattle.gimbal.specs.Cosines.{tripleFloats}
 use Rattle.gimbal.specs.Target.{turnedOf}
 use Rattle.exports_gimbal.specs.Rooms.{tripleAt, cosinesIn, written}
 
 -- by the lengths of the rows, the target and the room: 8 where the target is not three floats, 18 without room for three, 23 where the rows are not nine
 unfoldable pub turnedOutcome : ℕ → ℕ → ℕ → Outcome
-turnedOutcome rows target room = lowest (row (not (eqb target 3)) number.directions ∷ row (ltb room 3) number.recordsRoom ∷ row (not (eqb rows 9)) number.entry ∷ [])
+turnedOutcome rows target room = firstApplying (row (not (eqb target 3)) number.directions ∷ row (ltb room 3) number.recordsRoom ∷ row (not (eqb rows 9)) number.entry ∷ [])
 
 -- the room after the call: a refused one leaves it as it was
 unfoldable pub turnedRoom : List Float → List Float → List Float → List Float

@@ -16,8 +16,8 @@ use Rattle.assignment.specs.Tests.{all, some}
 use Rattle.refusal.specs.declared.Refusal.{Refusal}
 use Rattle.refusal.specs.declared.Outcome.{Outcome}
 use Rattle.refusal.specs.declared.Outcome.the-variants.{Accepted, Refused}
-use Rattle.refusal.specs.Table.{lowest}
-use Rattle.refusal.specs.Laws.{Every, lowest-every}
+use Rattle.refusal.specs.Table.{firstApplying}
+use Rattle.refusal.specs.Laws.{Every, applying-every}
 use Rattle.centroid.specs.declared.Centroid.{Centroid}
 use Rattle.frame_input.specs.Input.{frameRows}
 use Rattle.frame_input.specs.InputLaws.{accepted-valid}
@@ -86,7 +86,7 @@ module _ (samples : List ℕ) (width height threshold : ℕ) where
   abbrev numbers : List ℤ
   numbers = listingNumbers listing
 
-  module _ (e : lowest (frameRows samples width height threshold) ≡ Accepted) where
+  module _ (e : firstApplying (frameRows samples width height threshold) ≡ Accepted) where
     abbrev report : Report
     report = reportOf samples width height threshold (height * width)
 
@@ -149,10 +149,10 @@ module _ (samples : List ℕ) (width height threshold : ℕ) where
         ∙ same-seen g (reportIn numbers) report read-count (λ k. read-placed k .0) (λ k. read-placed k .1)
         ∙ rw e refl
 
-  refused-seen : (q : Refusal) → lowest (frameRows samples width height threshold) ≡ Refused q → (g : Guider) → seenBy g (reportIn numbers) (outcomeIn (numberIn numbers 0)) ≡ seenBy g (listing .report) (listing .outcome)
+  refused-seen : (q : Refusal) → firstApplying (frameRows samples width height threshold) ≡ Refused q → (g : Guider) → seenBy g (reportIn numbers) (outcomeIn (numberIn numbers 0)) ≡ seenBy g (listing .report) (listing .outcome)
   unfolding listingOf
   refused-seen q e g =
-      let n = lowest-every (λ n. (1 ≤ n) × (n ≤ 4)) (frameRows samples width height threshold) (few-rows samples width height threshold) q e in
+      let n = applying-every (λ n. (1 ≤ n) × (n ≤ 4)) (frameRows samples width height threshold) (few-rows samples width height threshold) q e in
       let r : numberIn numbers 0 ≡ q .number = rw e (signed-back (q .number) (omega (arith, n .1))) in
       let z : eqb (numberIn numbers 0) 0 ≡ false = ne-eqb (numberIn numbers 0) 0 (λ h. omega (arith, n .0)) in
       rw (z, e) refl
@@ -160,15 +160,15 @@ module _ (samples : List ℕ) (width height threshold : ℕ) where
   -- THE LAW: whatever the guider, the numbers that the list's call hands over do for the list
   pub own-list-read : (g : Guider) → guidedOf g (listingIn numbers) ≡ guidedOf g listing
   unfolding guidedOf
-  own-list-read g = ap (λ (x : Guided). cond (guiderOk g) x (refusedWith g)) (by (lowest (frameRows samples width height threshold)) refl)
+  own-list-read g = ap (λ (x : Guided). cond (guiderOk g) x (refusedWith g)) (by (firstApplying (frameRows samples width height threshold)) refl)
     where
-      by : (o : Outcome) → lowest (frameRows samples width height threshold) ≡ o → seenBy g (reportIn numbers) (outcomeIn (numberIn numbers 0)) ≡ seenBy g (listing .report) (listing .outcome)
+      by : (o : Outcome) → firstApplying (frameRows samples width height threshold) ≡ o → seenBy g (reportIn numbers) (outcomeIn (numberIn numbers 0)) ≡ seenBy g (listing .report) (listing .outcome)
       by Accepted e = accepted-seen e g
       by (Refused q) e = refused-seen q e g
 
   list-full : length numbers ≡ 64
   unfolding listingOf joined
-  list-full = by (lowest (frameRows samples width height threshold))
+  list-full = by (firstApplying (frameRows samples width height threshold))
     where
       by : (o : Outcome) → length (listingNumbers (record { outcome = o; report = listing .report })) ≡ 64
       by Accepted = refl

@@ -2,7 +2,7 @@
 use mathlib.Core.List.{List, [], _∷_}
 use Prim.Native.Nat.{ℕ, _*_}
 use lib.IntN.{ℤ, pos}
-use Rattle.refusal.specs.Table.{lowest, answered}
+use Rattle.refusal.specs.Table.{firstApplying, answered}
 use Rattle.refusal.specs.Answer.{Answer, refusedWith, acceptedWith}
 use Rattle.verdict.specs.Verdict.{verdictOf, kindNumber}
 use Rattle.verdict.specs.declared.Kind.{Kind}
@@ -17,14 +17,14 @@ use Rattle.frame.specs.declared.Listing.{Listing}
 -- the verdict on a pixel, or the refusal
 unfoldable pub judgementOf : List ℕ → ℕ → ℕ → ℕ → ℕ → ℕ → Judgement
 judgementOf samples width height threshold row column =
-    answered Refused (Judged (verdictOf samples width height threshold row column)) (lowest (pixelRows samples width height threshold row column))
+    answered Refused (Judged (verdictOf samples width height threshold row column)) (firstApplying (pixelRows samples width height threshold row column))
 
 -- the frame's list and counts, or the refusal and zeros
 unfoldable pub listingOf : List ℕ → ℕ → ℕ → ℕ → Listing
 listingOf samples width height threshold =
     record {
-      outcome = lowest (frameRows samples width height threshold);
-      report = answered (λ r. nothing) (reportOf samples width height threshold (height * width)) (lowest (frameRows samples width height threshold));
+      outcome = firstApplying (frameRows samples width height threshold);
+      report = answered (λ r. nothing) (reportOf samples width height threshold (height * width)) (firstApplying (frameRows samples width height threshold));
     }
 
 -- ---- the verdict's answer in document 01's own terms: row, column and kind, and for a measured pixel its position and brightness

@@ -11,7 +11,7 @@ use lib.Seq.{getD-take, getD-append-add}
 use borrow.Author.Tests.{eq-eqb}
 use Rattle.counting.specs.Contradiction.{contradiction}
 use Rattle.counting.specs.Number.{one, number}
-use Rattle.refusal.specs.Table.{refusalOf, lowest, answered}
+use Rattle.refusal.specs.Table.{refusalOf, firstApplying, answered}
 use Rattle.refusal.specs.Laws.{Silent, Given, given-refused, refused-given, silent-accepted}
 use Rattle.refusal.specs.AnswerLaws.{answerBy, answered-by}
 use Rattle.refusal.specs.declared.Outcome.{Outcome}
@@ -60,7 +60,7 @@ module _ (samples : List ℕ) (width height threshold row column : ℕ) where
   pub judge-refused-only : (n p : ℕ) → judgementOf samples width height threshold row column ≡ Refused (record { number = n; place = p })
       → Given (pixelRows samples width height threshold row column) n p
   unfolding judgementOf
-  judge-refused-only n p e = refused-given (pixelRows samples width height threshold row column) n p (go (lowest (pixelRows samples width height threshold row column)) e)
+  judge-refused-only n p e = refused-given (pixelRows samples width height threshold row column) n p (go (firstApplying (pixelRows samples width height threshold row column)) e)
     where
       go : (o : Outcome) → answered Refused (Judged (verdictOf samples width height threshold row column)) o ≡ Refused (record { number = n; place = p }) → o ≡ refusalOf n p
       go Accepted e = contradiction (cc)

@@ -7,7 +7,7 @@ use native.Mathlib.Omega.{arith}
 use lib.ListN.{length, replicate, getD, length-take, length-append, length-replicate, List·getD-eq-default}
 use Rattle.refusal.specs.declared.Outcome.{Outcome}
 use Rattle.refusal.specs.declared.Outcome.the-variants.{Accepted, Refused}
-use Rattle.refusal.specs.Table.{lowest, answered}
+use Rattle.refusal.specs.Table.{firstApplying, answered}
 use Rattle.centroid.specs.declared.Centroid.{Centroid}
 use Rattle.frame_input.specs.Input.{frameRows}
 use Rattle.frame_input.specs.InputLaws.{accepted-valid}
@@ -85,9 +85,9 @@ module _ (samples : List ℕ) (width height threshold : ℕ) where
   -- whatever a frame's call reports keeps it, where the call is refused too
   pub listing-listed : Listed (listingOf samples width height threshold .report)
   unfolding listingOf
-  listing-listed = by (lowest (frameRows samples width height threshold)) refl
+  listing-listed = by (firstApplying (frameRows samples width height threshold)) refl
     where
-      by : (o : Outcome) → lowest (frameRows samples width height threshold) ≡ o
+      by : (o : Outcome) → firstApplying (frameRows samples width height threshold) ≡ o
           → Listed (answered (λ r. nothing) (reportOf samples width height threshold (height * width)) o)
       by (Refused r) e = nothing-listed
       by Accepted e =
@@ -95,6 +95,6 @@ module _ (samples : List ℕ) (width height threshold : ℕ) where
           report-listed samples width height threshold (v .wide .1) (v .high .1)
 
   -- and the call is refused as its rows say
-  pub listing-outcome : listingOf samples width height threshold .outcome ≡ lowest (frameRows samples width height threshold)
+  pub listing-outcome : listingOf samples width height threshold .outcome ≡ firstApplying (frameRows samples width height threshold)
   unfolding listingOf
   listing-outcome = refl

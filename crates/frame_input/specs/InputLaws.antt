@@ -10,10 +10,10 @@ use lib.Dec.{ltb, leb}
 use borrow.Author.Tests.{lt-ltb, le-ltb, ltb-true, ltb-false, leb-true, leb-false, le-leb, eqb-true, eq-eqb, not-false}
 use Rattle.counting.specs.First.{First, first-is, first-of}
 use Rattle.refusal.specs.Numbers as numbers
-use Rattle.refusal.specs.Table.{row, refusalOf, lowest, otherwise}
+use Rattle.refusal.specs.Table.{row, refusalOf, firstApplying, otherwise}
 use Rattle.refusal.specs.Answer.{acceptedWith, answerOf}
 use Rattle.refusal.specs.AnswerLaws.{answerBy, outcome-by}
-use Rattle.refusal.specs.Laws.{Silent, accepted-silent, lowest-here, lowest-next, lowest-append}
+use Rattle.refusal.specs.Laws.{Silent, accepted-silent, applying-here, applying-next, applying-append}
 use Rattle.refusal.specs.declared.Refusal.{Refusal}
 use Rattle.refusal.specs.declared.Outcome.{Outcome}
 use Rattle.refusal.specs.declared.Outcome.the-variants.{Accepted, Refused}
@@ -95,15 +95,15 @@ module _ (samples : List ℕ) (width height threshold : ℕ) where
         small = none-over samples (ltb-false (firstOver samples) (length samples) s);
       }
 
-  pub accepted-valid : lowest (frameRows samples width height threshold) ≡ Accepted → Valid samples width height threshold
+  pub accepted-valid : firstApplying (frameRows samples width height threshold) ≡ Accepted → Valid samples width height threshold
   unfolding Silent
   accepted-valid e =
       let s = accepted-silent (frameRows samples width height threshold) e in
       valid (s .0) (s .1 .0) (s .1 .1 .0) (s .1 .1 .1 .0)
 
   -- and a call with such inputs is accepted
-  pub valid-accepted : Valid samples width height threshold → lowest (frameRows samples width height threshold) ≡ Accepted
-  unfolding lowest
+  pub valid-accepted : Valid samples width height threshold → firstApplying (frameRows samples width height threshold) ≡ Accepted
+  unfolding firstApplying
   valid-accepted v =
       let e : length samples ≡ width * height = v .whole ∙ mul-comm height width in
       rw (
@@ -118,7 +118,7 @@ module _ (samples : List ℕ) (width height threshold : ℕ) where
       )
 
   -- with a pixel that lies in the frame
-  pub accepted-pixel : (r c : ℕ) → lowest (pixelRows samples width height threshold r c) ≡ Accepted → Valid samples width height threshold × (r < height) × (c < width)
+  pub accepted-pixel : (r c : ℕ) → firstApplying (pixelRows samples width height threshold r c) ≡ Accepted → Valid samples width height threshold × (r < height) × (c < width)
   unfolding Silent
   accepted-pixel r c e =
       let s = accepted-silent (pixelRows samples width height threshold r c) e in
@@ -129,32 +129,32 @@ module _ (samples : List ℕ) (width height threshold : ℕ) where
 
 module _ (samples : List ℕ) (width height threshold r c : ℕ) where
   -- the frame's refusal, or the pixel's
-  pixel-joined : {o : Outcome} → lowest (frameRows samples width height threshold) ≡ o
-      → lowest (pixelRows samples width height threshold r c) ≡ otherwise o (lowest (row (pixelOut width height r c) numbers.pixel ∷ []))
+  pixel-joined : {o : Outcome} → firstApplying (frameRows samples width height threshold) ≡ o
+      → firstApplying (pixelRows samples width height threshold r c) ≡ otherwise o (firstApplying (row (pixelOut width height r c) numbers.pixel ∷ []))
   pixel-joined e =
-      lowest-append (frameRows samples width height threshold) (row (pixelOut width height r c) numbers.pixel ∷ [])
-      ∙ ap (λ (o : Outcome). otherwise o (lowest (row (pixelOut width height r c) numbers.pixel ∷ []))) e
+      applying-append (frameRows samples width height threshold) (row (pixelOut width height r c) numbers.pixel ∷ [])
+      ∙ ap (λ (o : Outcome). otherwise o (firstApplying (row (pixelOut width height r c) numbers.pixel ∷ []))) e
 
-  pub pixel-refused : (f : Refusal) → lowest (frameRows samples width height threshold) ≡ Refused f → lowest (pixelRows samples width height threshold r c) ≡ Refused f
+  pub pixel-refused : (f : Refusal) → firstApplying (frameRows samples width height threshold) ≡ Refused f → firstApplying (pixelRows samples width height threshold r c) ≡ Refused f
   pixel-refused f e = pixel-joined e
 
-  pub pixel-outside : lowest (frameRows samples width height threshold) ≡ Accepted → pixelOut width height r c ≡ true
-      → lowest (pixelRows samples width height threshold r c) ≡ refusalOf numbers.pixel 0
-  pixel-outside e t = pixel-joined e ∙ lowest-here (row (pixelOut width height r c) numbers.pixel) [] t
+  pub pixel-outside : firstApplying (frameRows samples width height threshold) ≡ Accepted → pixelOut width height r c ≡ true
+      → firstApplying (pixelRows samples width height threshold r c) ≡ refusalOf numbers.pixel 0
+  pixel-outside e t = pixel-joined e ∙ applying-here (row (pixelOut width height r c) numbers.pixel) [] t
 
-  pub pixel-inside : lowest (frameRows samples width height threshold) ≡ Accepted → pixelOut width height r c ≡ false
-      → lowest (pixelRows samples width height threshold r c) ≡ Accepted
-  unfolding lowest
-  pixel-inside e t = pixel-joined e ∙ lowest-next (row (pixelOut width height r c) numbers.pixel) [] t
+  pub pixel-inside : firstApplying (frameRows samples width height threshold) ≡ Accepted → pixelOut width height r c ≡ false
+      → firstApplying (pixelRows samples width height threshold r c) ≡ Accepted
+  unfolding firstApplying
+  pixel-inside e t = pixel-joined e ∙ applying-next (row (pixelOut width height r c) numbers.pixel) [] t
 
 -- ---- an outcome that goes by the rows has document 01's number and place
 
-pub frame-told : (samples : List ℕ) (width height threshold : ℕ) {o : Outcome} → o ≡ lowest (frameRows samples width height threshold)
-    → (o ≡ lowest (frameRows samples width height threshold)) × (answerOf o ≡ frameAnswer samples width height threshold (acceptedWith []))
+pub frame-told : (samples : List ℕ) (width height threshold : ℕ) {o : Outcome} → o ≡ firstApplying (frameRows samples width height threshold)
+    → (o ≡ firstApplying (frameRows samples width height threshold)) × (answerOf o ≡ frameAnswer samples width height threshold (acceptedWith []))
 unfolding answerBy
 frame-told samples width height threshold e = (e, ap answerOf e ∙ outcome-by (frameRows samples width height threshold))
 
-pub pixel-told : (samples : List ℕ) (width height threshold r c : ℕ) {o : Outcome} → o ≡ lowest (pixelRows samples width height threshold r c)
-    → (o ≡ lowest (pixelRows samples width height threshold r c)) × (answerOf o ≡ pixelAnswer samples width height threshold r c (acceptedWith []))
+pub pixel-told : (samples : List ℕ) (width height threshold r c : ℕ) {o : Outcome} → o ≡ firstApplying (pixelRows samples width height threshold r c)
+    → (o ≡ firstApplying (pixelRows samples width height threshold r c)) × (answerOf o ≡ pixelAnswer samples width height threshold r c (acceptedWith []))
 unfolding answerBy
 pixel-told samples width height threshold r c e = (e, ap answerOf e ∙ outcome-by (pixelRows samples width height threshold r c))

@@ -4,7 +4,7 @@ ghost use mathlib.Core.List.{[]};
 ghost use mathlib.Core.Path.{_≡_};
 ghost use Prim.Native.Nat.{ℕ, _≤_, _<_};
 ghost use lib.ListN.{length, getD};
-ghost use Rattle.refusal.specs.Table.{lowest};
+ghost use Rattle.refusal.specs.Table.{firstApplying};
 ghost use Rattle.refusal.specs.Answer.{answerOf, acceptedWith};
 ghost use Rattle.frame_input.specs.Input.{within, sizeOut, firstOver, frameRows, pixelRows, frameAnswer, pixelAnswer};
 use refusal::Outcome;
@@ -79,7 +79,7 @@ pub fn size_ok(width: usize, height: usize) -> bool
 
 // Width and height are tested before their product is formed, so it cannot overflow.
 pub fn frame_outcome(samples: &[u16], width: usize, height: usize, threshold: usize) -> Outcome
-    ensures { λ r. ⌜ r ≡ lowest (frameRows (now (samples .entry)) width height threshold) ⌝ }
+    ensures { λ r. ⌜ r ≡ firstApplying (frameRows (now (samples .entry)) width height threshold) ⌝ }
     ensures { λ r. ⌜ answerOf r ≡ frameAnswer (now (samples .entry)) width height threshold (acceptedWith []) ⌝ }
 {
     if !size_ok(width, height) {
@@ -107,7 +107,7 @@ pub fn pixel_outcome(
     row: usize,
     column: usize,
 ) -> Outcome
-    ensures { λ r. ⌜ r ≡ lowest (pixelRows (now (samples .entry)) width height threshold row column) ⌝ }
+    ensures { λ r. ⌜ r ≡ firstApplying (pixelRows (now (samples .entry)) width height threshold row column) ⌝ }
     ensures { λ r. ⌜ answerOf r ≡ pixelAnswer (now (samples .entry)) width height threshold row column (acceptedWith []) ⌝ }
 {
     let outcome = frame_outcome(samples, width, height, threshold);

@@ -4,7 +4,7 @@ use mathlib.Core.Path.{_≡_, refl}
 use mathlib.Core.Bool.{true, false}
 use lib.IntN.{pos, negsuc}
 use lib.Ieee.{Float, nan, inf, fin, binary64, toBits, ofInt, round, add, mul, div}
-use Rattle.refusal.specs.Table.{lowest}
+use Rattle.refusal.specs.Table.{firstApplying}
 use Rattle.vectors.specs.declared.Vec3.{Vec3}
 use Rattle.attitude.specs.declared.Matrix.{Matrix}
 use Rattle.attitude.specs.Bench.{right, down, up, out}
@@ -53,11 +53,11 @@ abbrev pub quarterTurn : Cosines
 quarterTurn = record { row0 = triple nought minusOne nought; row1 = triple one nought nought; row2 = triple nought nought one }
 
 pub case-I : gimbalOf (record { row0 = right; row1 = down; row2 = out }) ≡ Rows identity
-unfolding gimbalOf lowest cosineOf div ofInt round
+unfolding gimbalOf firstApplying cosineOf div ofInt round
 case-I = refl
 
 pub case-J : gimbalOf (record { row0 = up; row1 = right; row2 = out }) ≡ Rows quarterTurn
-unfolding gimbalOf lowest cosineOf div ofInt round
+unfolding gimbalOf firstApplying cosineOf div ofInt round
 case-J = refl
 
 -- ---- the ends of the range: 8 * 10^9 either way is taken, one more is not
@@ -68,15 +68,15 @@ across v = record { row0 = right; row1 = v; row2 = out }
 pub ends-taken :
     gimbalOf (across (record { x = pos 8000000000; y = negsuc 7999999999; z = pos 0 })) ≡
     Rows (record { row0 = triple one nought nought; row1 = triple (fin false 1 (pos 3)) (fin true 1 (pos 3)) nought; row2 = triple nought nought one })
-unfolding gimbalOf lowest cosineOf div ofInt round
+unfolding gimbalOf firstApplying cosineOf div ofInt round
 ends-taken = refl
 
 pub one-more-refused : gimbalOf (across (record { x = pos 0; y = pos 0; z = pos 8000000001 })) ≡ refused
-unfolding gimbalOf lowest
+unfolding gimbalOf firstApplying
 one-more-refused = refl
 
 pub one-less-refused : gimbalOf (across (record { x = pos 0; y = negsuc 8000000000; z = pos 0 })) ≡ refused
-unfolding gimbalOf lowest
+unfolding gimbalOf firstApplying
 one-less-refused = refl
 
 -- ---- targets

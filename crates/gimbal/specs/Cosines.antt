@@ -6,7 +6,7 @@ use lib.Dec.{ltb}
 use lib.IntN.{ℤ, pos}
 use lib.Ieee.{Float, binary64, ofInt, div, toBits}
 use Rattle.refusal.specs.Numbers.{entry}
-use Rattle.refusal.specs.Table.{Row, row, lowest, answered}
+use Rattle.refusal.specs.Table.{Row, row, firstApplying, answered}
 use Rattle.refusal.specs.Answer.{Answer, refusedWith, acceptedWith}
 use Rattle.vectors.specs.declared.Vec3.{Vec3}
 use Rattle.attitude.specs.declared.Matrix.{Matrix}
@@ -38,7 +38,7 @@ abbrev pub refusalsOf : Matrix → List Row
 refusalsOf m = row (outOfRange m) entry ∷ []
 
 unfoldable pub gimbalOf : Matrix → Gimbal
-gimbalOf m = answered Refused (Rows (rowsOf m)) (lowest (refusalsOf m))
+gimbalOf m = answered Refused (Rows (rowsOf m)) (firstApplying (refusalsOf m))
 
 -- ---- in the documents' own terms: the floats row by row, and the bits of each
 

@@ -9,7 +9,7 @@ use Rattle.refusal.specs.Numbers.{entry}
 use Rattle.refusal.specs.declared.Refusal.{Refusal}
 use Rattle.refusal.specs.declared.Outcome.{Outcome}
 use Rattle.refusal.specs.declared.Outcome.the-variants.{Accepted, Refused as Stopped}
-use Rattle.refusal.specs.Table.{row, lowest, answered}
+use Rattle.refusal.specs.Table.{row, firstApplying, answered}
 use Rattle.refusal.specs.Laws.{Silent, accepted-silent}
 use Rattle.refusal.specs.AnswerLaws.{answerBy, answered-by}
 use Rattle.vectors.specs.declared.Vec3.{Vec3}
@@ -39,19 +39,19 @@ matrix-in m =
 -- ---- which answer is given
 
 abbrev given : Bool → Cosines → Gimbal
-given a rows = answered Refused (Rows rows) (lowest (row a entry ∷ []))
+given a rows = answered Refused (Rows rows) (firstApplying (row a entry ∷ []))
 
 abbrev pub refused : Gimbal
 refused = Refused (record { number = entry; place = 0 })
 
 module _ (rows : Cosines) where
   number-23 : (a : Bool) → (answerOf (given a rows) .number ≡ 23) ↔ (a ≡ true)
-  unfolding lowest
+  unfolding firstApplying
   number-23 true = (λ e. refl, λ e. refl)
   number-23 false = (λ e. absurd (eqb-false 0 23 refl e), λ e. absurd (false≢true e))
 
   accepted : (a : Bool) → a ≡ false → given a rows ≡ Rows rows
-  unfolding lowest
+  unfolding firstApplying
   accepted a e = rw e
 
 module _ (m : Matrix) where
@@ -70,7 +70,7 @@ module _ (m : Matrix) where
   in-range h = accepted (rowsOf m) (outOfRange m) (matrix-in m .1 h)
 
   -- as the code meets them
-  module _ {o : Outcome} (rows : o ≡ lowest (refusalsOf m)) where
+  module _ {o : Outcome} (rows : o ≡ firstApplying (refusalsOf m)) where
     pub by-refusal : {r : Refusal} → o ≡ Stopped r → gimbalOf m ≡ Refused r
     unfolding gimbalOf
     by-refusal e = rw (← rows, e)

@@ -3,7 +3,7 @@ use attitude::Matrix;
 use refusal::Outcome;
 use vectors::Vec3;
 ghost use mathlib.Core.Path.{_≡_};
-ghost use Rattle.refusal.specs.Table.{lowest};
+ghost use Rattle.refusal.specs.Table.{firstApplying};
 ghost use Rattle.gimbal.specs.Cosines.{beyond, outOfRange, refusalsOf};
 
 // How far from 0 an entry may lie.
@@ -30,7 +30,7 @@ fn out_of_range(m: Matrix) -> bool
 }
 
 pub(crate) fn tested(m: Matrix) -> Outcome
-    ensures { λ r. ⌜ r ≡ lowest (refusalsOf m) ⌝ }
+    ensures { λ r. ⌜ r ≡ firstApplying (refusalsOf m) ⌝ }
 {
     if out_of_range(m) {
         return refusal::plain(refusal::ENTRY);

@@ -7,7 +7,7 @@ use Prim.Native.Nat.{ℕ}
 use lib.IntN.{ℤ}
 use lib.ListN.{length, drop}
 use Rattle.refusal.specs.Numbers as number
-use Rattle.refusal.specs.Table.{row, lowest, answered}
+use Rattle.refusal.specs.Table.{row, firstApplying, answered}
 use Rattle.catalogue.specs.Stars.{starsOf}
 use Rattle.catalogue.specs.Alike.{Alike, stars-same, rows-same}
 use Rattle.index.specs.declared.Built.the-variants.{Refused, Records}
@@ -23,14 +23,14 @@ module _ {first second : List ℕ} (a : Alike first second) (floor : ℤ) where
   pub built-same : (size : ℕ) → builtOf first floor size ≡ builtOf second floor size
   unfolding builtOf refusalsOf
   built-same size =
-      (λ j. answered Refused (Records (length (keysOf (stars-same a j) floor))) (lowest (rows-same a j ++ (row (roomShort (stars-same a j) floor size) number.indexRoom ∷ []))))
+      (λ j. answered Refused (Records (length (keysOf (stars-same a j) floor))) (firstApplying (rows-same a j ++ (row (roomShort (stars-same a j) floor size) number.indexRoom ∷ []))))
 
   pub room-same : (room : List ℕ) → roomAfter first floor room ≡ roomAfter second floor room
   unfolding roomAfter refusalsOf
   room-same room =
       (λ j.
       answered (λ _. room) (index-same j ++ drop (length (index-same j)) room)
-      (lowest (rows-same a j ++ (row (roomShort (stars-same a j) floor (length room)) number.indexRoom ∷ []))))
+      (firstApplying (rows-same a j ++ (row (roomShort (stars-same a j) floor (length room)) number.indexRoom ∷ []))))
 
   -- the test of an index that is handed in
   pub test-same : (index : List ℕ) → isIndex (starsOf first) floor index ≡ isIndex (starsOf second) floor index

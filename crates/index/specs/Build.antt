@@ -7,7 +7,7 @@ use lib.IntN.{ℤ, pos}
 use lib.ListN.{length, drop}
 use Rattle.refusal.specs.declared.Refusal.{Refusal}
 use Rattle.refusal.specs.Numbers as number
-use Rattle.refusal.specs.Table.{Row, row, lowest, answered}
+use Rattle.refusal.specs.Table.{Row, row, firstApplying, answered}
 use Rattle.refusal.specs.Answer.{Answer, refusedWith, acceptedWith}
 use Rattle.catalogue.specs.Check as catalogue
 use Rattle.catalogue.specs.Stars.{starsOf}
@@ -25,12 +25,12 @@ refusalsOf bytes floor size = catalogue.refusalsOf bytes ++ (row (roomShort (sta
 
 -- the refusal, or how many records there are
 unfoldable pub builtOf : List ℕ → ℤ → ℕ → Built
-builtOf bytes floor size = answered Refused (Records (length (keysOf (starsOf bytes) floor))) (lowest (refusalsOf bytes floor size))
+builtOf bytes floor size = answered Refused (Records (length (keysOf (starsOf bytes) floor))) (firstApplying (refusalsOf bytes floor size))
 
 -- the index at the front and the other bytes as they were; a refusal changes no byte
 unfoldable pub roomAfter : List ℕ → ℤ → List ℕ → List ℕ
 roomAfter bytes floor room =
-    answered (λ _. room) (indexOf (starsOf bytes) floor ++ drop (length (indexOf (starsOf bytes) floor)) room) (lowest (refusalsOf bytes floor (length room)))
+    answered (λ _. room) (indexOf (starsOf bytes) floor ++ drop (length (indexOf (starsOf bytes) floor)) room) (firstApplying (refusalsOf bytes floor (length room)))
 
 -- the same of decoded stars
 unfoldable pub builtFrom : List ℤ → ℤ → ℕ → Built

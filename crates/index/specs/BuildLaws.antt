@@ -11,8 +11,8 @@ use Rattle.refusal.specs.declared.Outcome.{Outcome}
 use Rattle.refusal.specs.declared.Outcome.the-variants.{Accepted}
 use Rattle.refusal.specs.declared.Refusal.{Refusal}
 use Rattle.refusal.specs.Numbers as number
-use Rattle.refusal.specs.Table.{row, lowest, answered}
-use Rattle.refusal.specs.Laws.{lowest-append, lowest-here, lowest-next}
+use Rattle.refusal.specs.Table.{row, firstApplying, answered}
+use Rattle.refusal.specs.Laws.{applying-append, applying-here, applying-next}
 use Rattle.refusal.specs.AnswerLaws.{answerBy, answered-by}
 use Rattle.catalogue.specs.Check as catalogue
 use Rattle.catalogue.specs.CheckLaws.{valid-accepted}
@@ -63,12 +63,12 @@ pub valid-listed : (bytes : List ℕ) → Valid bytes → Listed 512 (starsOf by
 valid-listed bytes v = record { few = omega (arith, valid-length bytes v, v .size .most); near = valid-within bytes v }
 
 module _ (bytes : List ℕ) (floor : ℤ) where
-  joined : (size : ℕ) {o : Outcome} → lowest (catalogue.refusalsOf bytes) ≡ o
-      → lowest (refusalsOf bytes floor size) ≡ answered Outcome.Refused (lowest (row (roomShort (starsOf bytes) floor size) number.indexRoom ∷ [])) o
+  joined : (size : ℕ) {o : Outcome} → firstApplying (catalogue.refusalsOf bytes) ≡ o
+      → firstApplying (refusalsOf bytes floor size) ≡ answered Outcome.Refused (firstApplying (row (roomShort (starsOf bytes) floor size) number.indexRoom ∷ [])) o
   unfolding refusalsOf
   joined size e =
-      lowest-append (catalogue.refusalsOf bytes) (row (roomShort (starsOf bytes) floor size) number.indexRoom ∷ [])
-      ∙ ap (answered Outcome.Refused (lowest (row (roomShort (starsOf bytes) floor size) number.indexRoom ∷ []))) e
+      applying-append (catalogue.refusalsOf bytes) (row (roomShort (starsOf bytes) floor size) number.indexRoom ∷ [])
+      ∙ ap (answered Outcome.Refused (firstApplying (row (roomShort (starsOf bytes) floor size) number.indexRoom ∷ []))) e
 
   -- the answer in document 01's terms
   pub answers : (size : ℕ) → answerOf (builtOf bytes floor size) ≡ answerFor bytes floor size
@@ -76,18 +76,18 @@ module _ (bytes : List ℕ) (floor : ℤ) where
   answers size = answered-by Refused (Records (length (keysOf (starsOf bytes) floor))) answerOf _ (λ r. refl) refl (refusalsOf bytes floor size)
 
   -- the catalogue is refused
-  pub catalogue-refused : (r : Refusal) (size : ℕ) → lowest (catalogue.refusalsOf bytes) ≡ Outcome.Refused r → builtOf bytes floor size ≡ Refused r
+  pub catalogue-refused : (r : Refusal) (size : ℕ) → firstApplying (catalogue.refusalsOf bytes) ≡ Outcome.Refused r → builtOf bytes floor size ≡ Refused r
   unfolding builtOf
   catalogue-refused r size e = ap (answered Refused (Records (length (keysOf (starsOf bytes) floor)))) (joined size e)
 
-  pub catalogue-kept : (r : Refusal) (room : List ℕ) → lowest (catalogue.refusalsOf bytes) ≡ Outcome.Refused r → roomAfter bytes floor room ≡ room
+  pub catalogue-kept : (r : Refusal) (room : List ℕ) → firstApplying (catalogue.refusalsOf bytes) ≡ Outcome.Refused r → roomAfter bytes floor room ≡ room
   unfolding roomAfter
   catalogue-kept r room e = rw (joined (length room) e)
 
   -- it is valid: the rest is as of the stars
   module _ (v : Valid bytes) where
     pub valid-built : (size : ℕ) → builtOf bytes floor size ≡ builtFrom (starsOf bytes) floor size
-    unfolding builtOf builtFrom lowest
+    unfolding builtOf builtFrom firstApplying
     valid-built size = ap (answered Refused (Records (length (keysOf (starsOf bytes) floor)))) (joined size (valid-accepted bytes v)) ∙ go (roomShort (starsOf bytes) floor size)
       where
         go : (t : Bool) → answered Refused (Records (length (keysOf (starsOf bytes) floor))) (answered Outcome.Refused (cond t (Outcome.Refused (record { number = number.indexRoom; place = 0 })) Accepted) Accepted)
@@ -96,7 +96,7 @@ module _ (bytes : List ℕ) (floor : ℤ) where
         go false = refl
 
     pub valid-room : (room : List ℕ) → roomAfter bytes floor room ≡ roomFrom (starsOf bytes) floor room
-    unfolding roomAfter roomFrom lowest
+    unfolding roomAfter roomFrom firstApplying
     valid-room room = ap (answered (λ _. room) _) (joined (length room) (valid-accepted bytes v)) ∙ go (roomShort (starsOf bytes) floor (length room))
       where
         go : (t : Bool) → answered (λ _. room) (indexOf (starsOf bytes) floor ++ drop (length (indexOf (starsOf bytes) floor)) room) (answered Outcome.Refused (cond t (Outcome.Refused (record { number = number.indexRoom; place = 0 })) Accepted) Accepted)

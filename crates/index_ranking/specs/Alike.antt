@@ -5,7 +5,7 @@ use mathlib.Core.List.{List, _++_}
 use Prim.Native.Nat.{ℕ}
 use lib.IntN.{ℤ}
 use lib.ListN.{length}
-use Rattle.refusal.specs.Table.{lowest, answered}
+use Rattle.refusal.specs.Table.{firstApplying, answered}
 use Rattle.catalogue.specs.Alike.{Alike, stars-same, rows-same}
 use Rattle.ranking.specs.Alike as plain
 use Rattle.index_ranking.specs.Call.{call, rowsBehind, refusalsOf, outcomeOf, roomAfter}
@@ -13,7 +13,7 @@ use Rattle.index_ranking.specs.Call.{call, rowsBehind, refusalsOf, outco
 module _ {first second : List ℕ} (a : Alike first second) (directions : List ℤ) (index : List ℕ) (floor : ℤ) (tolerance : ℕ) (room : List ℕ) where
   pub outcome-same : outcomeOf (call directions first index floor tolerance room) ≡ outcomeOf (call directions second index floor tolerance room)
   unfolding outcomeOf refusalsOf
-  outcome-same = (λ j. lowest (rows-same a j ++ rowsBehind directions (stars-same a j) (a .count j) index floor tolerance (length room)))
+  outcome-same = (λ j. firstApplying (rows-same a j ++ rowsBehind directions (stars-same a j) (a .count j) index floor tolerance (length room)))
 
   pub room-same : roomAfter (call directions first index floor tolerance room) ≡ roomAfter (call directions second index floor tolerance room)
   unfolding roomAfter

@@ -6,7 +6,7 @@ use lib.IntN.{ℤ}
 use lib.ListN.{length}
 use Rattle.refusal.specs.declared.Outcome.{Outcome}
 use Rattle.refusal.specs.Numbers as number
-use Rattle.refusal.specs.Table.{Row, row, lowest, answered}
+use Rattle.refusal.specs.Table.{Row, row, firstApplying, answered}
 use Rattle.refusal.specs.Answer.{Answer, refusedWith, acceptedWith}
 use Rattle.direction.specs.List.{listOk}
 use Rattle.direction.specs.ListLaws.{directionsIn}
@@ -41,7 +41,7 @@ refusalsOf c =
 
 -- the refusal, or that the call is accepted
 unfoldable pub outcomeOf : Call → Outcome
-outcomeOf c = lowest (refusalsOf c)
+outcomeOf c = firstApplying (refusalsOf c)
 
 -- an accepted call leaves what the ranking by the plain rule leaves; a refusal changes no word
 unfoldable pub roomAfter : Call → List ℕ

@@ -9,7 +9,7 @@ use Rattle.counting.specs.Contradiction.{contradiction}
 use Rattle.refusal.specs.declared.Outcome.{Outcome}
 use Rattle.refusal.specs.declared.Outcome.the-variants.{Accepted, Refused}
 use Rattle.refusal.specs.Numbers as number
-use Rattle.refusal.specs.Table.{refusalOf, lowest, answered, otherwise}
+use Rattle.refusal.specs.Table.{refusalOf, firstApplying, answered, otherwise}
 use Rattle.refusal.specs.Answer.{answerOf}
 use Rattle.refusal.specs.AnswerLaws.{answerBy, outcome-by}
 use Rattle.catalogue.specs.Format.{recordsIn}
@@ -53,7 +53,7 @@ module _ (c : Call) where
   unfolding rankOutcomeOf
   test-outcome t =
       joined c refl
-      ∙ ap (otherwise (lowest (catalogue.refusalsOf (c .catalogue)))) (right-index (c .directions) (starsOf (c .catalogue)) (recordsIn (c .catalogue)) (c .index) (c .floor) (c .tolerance) (length (c .room)) t)
+      ∙ ap (otherwise (firstApplying (catalogue.refusalsOf (c .catalogue)))) (right-index (c .directions) (starsOf (c .catalogue)) (recordsIn (c .catalogue)) (c .index) (c .floor) (c .tolerance) (length (c .room)) t)
       ∙ sym (plain-steps.outcome-joined (c .directions) (c .catalogue) (c .tolerance) (length (c .room)) refl)
 
   -- the answer is the plain ranking's, refused or not
@@ -78,9 +78,9 @@ module _ (c : Call) where
       contradiction (cc)
 
   accepted-catalogue : outcomeOf c ≡ Accepted → Valid (c .catalogue)
-  accepted-catalogue e = go (lowest (catalogue.refusalsOf (c .catalogue))) refl
+  accepted-catalogue e = go (firstApplying (catalogue.refusalsOf (c .catalogue))) refl
     where
-      go : (o : Outcome) → lowest (catalogue.refusalsOf (c .catalogue)) ≡ o → Valid (c .catalogue)
+      go : (o : Outcome) → firstApplying (catalogue.refusalsOf (c .catalogue)) ≡ o → Valid (c .catalogue)
       go Accepted k = accepted-valid (c .catalogue) k
       go (Refused r) k = let d : Refused r ≡ Accepted = sym (joined c k) ∙ e in contradiction (cc)
 

@@ -10,8 +10,8 @@ use Rattle.refusal.specs.declared.Refusal.{Refusal}
 use Rattle.refusal.specs.declared.Outcome.{Outcome}
 use Rattle.refusal.specs.declared.Outcome.the-variants.{Accepted, Refused}
 use Rattle.refusal.specs.Numbers as number
-use Rattle.refusal.specs.Table.{refusalOf, lowest, answered, otherwise}
-use Rattle.refusal.specs.Laws.{lowest-here, lowest-next, lowest-append}
+use Rattle.refusal.specs.Table.{refusalOf, firstApplying, answered, otherwise}
+use Rattle.refusal.specs.Laws.{applying-here, applying-next, applying-append}
 use Rattle.catalogue.specs.Format.{recordsIn}
 use Rattle.catalogue.specs.Check as catalogue
 use Rattle.catalogue.specs.CheckLaws.{valid-accepted}
@@ -28,13 +28,13 @@ use Rattle.index_ranking.specs.Stars.{outcomeFrom, roomFrom}
 -- ---- 17 and the rows behind it
 
 module _ (directions stars : List ℤ) (records : ℕ) (index : List ℕ) (floor : ℤ) (tolerance words : ℕ) where
-  pub wrong-index : isIndex stars floor index ≡ false → lowest (rowsBehind directions stars records index floor tolerance words) ≡ refusalOf number.index 0
+  pub wrong-index : isIndex stars floor index ≡ false → firstApplying (rowsBehind directions stars records index floor tolerance words) ≡ refusalOf number.index 0
   unfolding rowsBehind
-  wrong-index e = lowest-here _ _ (ap not e)
+  wrong-index e = applying-here _ _ (ap not e)
 
-  pub right-index : isIndex stars floor index ≡ true → lowest (rowsBehind directions stars records index floor tolerance words) ≡ lowest (rowsBeside directions records tolerance words)
+  pub right-index : isIndex stars floor index ≡ true → firstApplying (rowsBehind directions stars records index floor tolerance words) ≡ firstApplying (rowsBeside directions records tolerance words)
   unfolding rowsBehind
-  right-index e = lowest-next _ _ (ap not e)
+  right-index e = applying-next _ _ (ap not e)
 
 -- ---- of decoded stars
 
@@ -43,7 +43,7 @@ module _ (directions stars : List ℤ) (index : List ℕ) (floor : ℤ) (toleran
   unfolding outcomeFrom
   wrong-from e = wrong-index directions stars (triples stars) index floor tolerance words e
 
-  pub right-from : isIndex stars floor index ≡ true → outcomeFrom directions stars index floor tolerance words ≡ lowest (rowsBeside directions (triples stars) tolerance words)
+  pub right-from : isIndex stars floor index ≡ true → outcomeFrom directions stars index floor tolerance words ≡ firstApplying (rowsBeside directions (triples stars) tolerance words)
   unfolding outcomeFrom
   right-from e = right-index directions stars (triples stars) index floor tolerance words e
 
@@ -61,12 +61,12 @@ module _ (directions stars : List ℤ) (index : List ℕ) (floor : ℤ) (toleran
 
 module _ (c : Call) where
   abbrev behind : Outcome
-  behind = lowest (rowsBehind (c .directions) (starsOf (c .catalogue)) (recordsIn (c .catalogue)) (c .index) (c .floor) (c .tolerance) (length (c .room)))
+  behind = firstApplying (rowsBehind (c .directions) (starsOf (c .catalogue)) (recordsIn (c .catalogue)) (c .index) (c .floor) (c .tolerance) (length (c .room)))
 
   -- the catalogue's outcome first
-  pub joined : {o : Outcome} → lowest (catalogue.refusalsOf (c .catalogue)) ≡ o → outcomeOf c ≡ otherwise o behind
+  pub joined : {o : Outcome} → firstApplying (catalogue.refusalsOf (c .catalogue)) ≡ o → outcomeOf c ≡ otherwise o behind
   unfolding outcomeOf refusalsOf
-  joined e = lowest-append (catalogue.refusalsOf (c .catalogue)) _ ∙ ap (λ (o : Outcome). otherwise o behind) e
+  joined e = applying-append (catalogue.refusalsOf (c .catalogue)) _ ∙ ap (λ (o : Outcome). otherwise o behind) e
 
   pub refused-room : (r : Refusal) → outcomeOf c ≡ Refused r → roomAfter c ≡ c .room
   unfolding roomAfter
@@ -81,4 +81,4 @@ module _ (c : Call) where
     unfolding outcomeFrom
     valid-outcome =
         joined (valid-accepted (c .catalogue) v)
-        ∙ ap (λ (n : ℕ). lowest (rowsBehind (c .directions) (starsOf (c .catalogue)) n (c .index) (c .floor) (c .tolerance) (length (c .room)))) (sym counted)
+        ∙ ap (λ (n : ℕ). firstApplying (rowsBehind (c .directions) (starsOf (c .catalogue)) n (c .index) (c .floor) (c .tolerance) (length (c .room)))) (sym counted)

@@ -69,7 +69,7 @@ fn write_ranking(
     }
 }
 
-// The ranking of decoded stars with their own index, or the lowest of 8, 9 and 10.
+// The ranking of decoded stars with their own index, or the first of 8, 9 and 10.
 fn rank_right(
     directions: &[i32],
     stars: &[i32],
@@ -95,7 +95,7 @@ fn rank_right(
     }
 }
 
-// The ranking of decoded stars, or the lowest of 17, 8, 9 and 10 in this order.
+// The ranking of decoded stars, or the first of 17, 8, 9 and 10 in this order.
 fn rank_from(
     directions: &[i32],
     stars: &[i32],

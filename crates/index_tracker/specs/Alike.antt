@@ -5,7 +5,7 @@ use mathlib.Core.List.{List, _++_}
 use Prim.Native.Nat.{ℕ}
 use lib.IntN.{ℤ}
 use lib.ListN.{length}
-use Rattle.refusal.specs.Table.{lowest, answered}
+use Rattle.refusal.specs.Table.{firstApplying, answered}
 use Rattle.frame_input.specs.Input.{frameRows}
 use Rattle.catalogue.specs.Alike.{Alike, stars-same, rows-same}
 use Rattle.tracker.specs.declared.Settings.{Settings}
@@ -15,11 +15,11 @@ use Rattle.tracker.specs.Alike as chain
 use Rattle.index_tracker.specs.Chain.{call, indexRows, starsRows, refusalsOf, trackedOf, roomAfter}
 
 module _ {first second : List ℕ} (a : Alike first second) (samples index : List ℕ) (floor : ℤ) (s : Settings) (room : List ℕ) where
-  pub outcome-same : lowest (refusalsOf (call samples first index floor s room)) ≡ lowest (refusalsOf (call samples second index floor s room))
+  pub outcome-same : firstApplying (refusalsOf (call samples first index floor s room)) ≡ firstApplying (refusalsOf (call samples second index floor s room))
   unfolding refusalsOf starsRows
   outcome-same =
       (λ j.
-      lowest
+      firstApplying
       (frameRows samples (s .width) (s .height) (s .threshold)
       ++ (settingsRows s
       ++ ((rows-same a j ++ indexRows (stars-same a j) index floor)

@@ -5,7 +5,7 @@ use Prim.Native.Nat.{ℕ}
 use lib.IntN.{ℤ}
 use lib.ListN.{length}
 use Rattle.refusal.specs.Numbers as number
-use Rattle.refusal.specs.Table.{Row, row, lowest, answered}
+use Rattle.refusal.specs.Table.{Row, row, firstApplying, answered}
 use Rattle.frame_input.specs.Input.{frameRows}
 use Rattle.catalogue.specs.Check as catalogue
 use Rattle.catalogue.specs.Stars.{starsOf}
@@ -42,8 +42,8 @@ refusalsOf c =
 
 -- where none of them applies, the plain chain's answer, 13 and 14 among them
 unfoldable pub trackedOf : Call → Tracked
-trackedOf c = answered refusedWith (plain.trackedOf (c .chain)) (lowest (refusalsOf c))
+trackedOf c = answered refusedWith (plain.trackedOf (c .chain)) (firstApplying (refusalsOf c))
 
 -- and its room; one of them leaves the room untouched
 unfoldable pub roomAfter : Call → List ℕ
-roomAfter c = answered (λ _. c .chain .room) (plain.roomAfter (c .chain)) (lowest (refusalsOf c))
+roomAfter c = answered (λ _. c .chain .room) (plain.roomAfter (c .chain)) (firstApplying (refusalsOf c))

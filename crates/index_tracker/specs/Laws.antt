@@ -10,8 +10,8 @@ use Rattle.refusal.specs.declared.Refusal.{Refusal}
 use Rattle.refusal.specs.declared.Outcome.{Outcome}
 use Rattle.refusal.specs.declared.Outcome.the-variants.{Accepted, Refused}
 use Rattle.refusal.specs.Numbers as number
-use Rattle.refusal.specs.Table.{refusalOf, lowest, answered, otherwise}
-use Rattle.refusal.specs.Laws.{lowest-here, lowest-append, otherwise-accepted, Every, every-append, lowest-every}
+use Rattle.refusal.specs.Table.{refusalOf, firstApplying, answered, otherwise}
+use Rattle.refusal.specs.Laws.{applying-here, applying-append, otherwise-accepted, Every, every-append, applying-every}
 use Rattle.frame_input.specs.Input.{frameRows}
 use Rattle.frame.specs.ListingLaws.{listing-outcome}
 use Rattle.catalogue.specs.Check as catalogue
@@ -32,14 +32,14 @@ use Rattle.index_tracker.specs.Chain.{Call, indexRows, starsRows, refusa
 -- ---- 17
 
 module _ (stars : List ℤ) (index : List ℕ) (floor : ℤ) where
-  pub wrong-index : isIndex stars floor index ≡ false → lowest (indexRows stars index floor) ≡ refusalOf number.index 0
-  wrong-index e = lowest-here _ _ (ap not e)
+  pub wrong-index : isIndex stars floor index ≡ false → firstApplying (indexRows stars index floor) ≡ refusalOf number.index 0
+  wrong-index e = applying-here _ _ (ap not e)
 
-  pub right-index : isIndex stars floor index ≡ true → lowest (indexRows stars index floor) ≡ Accepted
-  unfolding lowest
+  pub right-index : isIndex stars floor index ≡ true → firstApplying (indexRows stars index floor) ≡ Accepted
+  unfolding firstApplying
   right-index e = rw e
 
-  pub index-accepted : lowest (indexRows stars index floor) ≡ Accepted → isIndex stars floor index ≡ true
+  pub index-accepted : firstApplying (indexRows stars index floor) ≡ Accepted → isIndex stars floor index ≡ true
   index-accepted h = go (isIndex stars floor index) refl
     where
       go : (t : Bool) → isIndex stars floor index ≡ t → isIndex stars floor index ≡ true
@@ -47,23 +47,23 @@ module _ (stars : List ℤ) (index : List ℕ) (floor : ℤ) where
       go false e = let d : refusalOf number.index 0 ≡ Accepted = sym (wrong-index e) ∙ h in contradiction (cc)
 
 -- the catalogue's outcome, and then the index's
-pub stars-joined : (bytes index : List ℕ) (floor : ℤ) {o : Outcome} → lowest (catalogue.refusalsOf bytes) ≡ o
-    → lowest (starsRows bytes index floor) ≡ otherwise o (lowest (indexRows (starsOf bytes) index floor))
+pub stars-joined : (bytes index : List ℕ) (floor : ℤ) {o : Outcome} → firstApplying (catalogue.refusalsOf bytes) ≡ o
+    → firstApplying (starsRows bytes index floor) ≡ otherwise o (firstApplying (indexRows (starsOf bytes) index floor))
 unfolding starsRows
 stars-joined bytes index floor e =
-    lowest-append (catalogue.refusalsOf bytes) (indexRows (starsOf bytes) index floor) ∙ ap (λ (o : Outcome). otherwise o (lowest (indexRows (starsOf bytes) index floor))) e
+    applying-append (catalogue.refusalsOf bytes) (indexRows (starsOf bytes) index floor) ∙ ap (λ (o : Outcome). otherwise o (firstApplying (indexRows (starsOf bytes) index floor))) e
 
 -- ---- the call
 
 module _ (c : Call) where
   abbrev stars : Outcome
-  stars = lowest (starsRows (c .chain .catalogue) (c .index) (c .floor))
+  stars = firstApplying (starsRows (c .chain .catalogue) (c .index) (c .floor))
 
   abbrev demand : Outcome
-  demand = lowest (demandRows (c .chain .settings) (length (c .chain .room)) (listed (c .chain) .report .count))
+  demand = firstApplying (demandRows (c .chain .settings) (length (c .chain .room)) (listed (c .chain) .report .count))
 
   -- the first of the four parts that refuses
-  pub refusals-joined : lowest (refusalsOf c) ≡ otherwise (listed (c .chain) .outcome) (otherwise (lowest (settingsRows (c .chain .settings))) (otherwise stars demand))
+  pub refusals-joined : firstApplying (refusalsOf c) ≡ otherwise (listed (c .chain) .outcome) (otherwise (firstApplying (settingsRows (c .chain .settings))) (otherwise stars demand))
   unfolding refusalsOf
   refusals-joined =
       let s = c .chain .settings in
@@ -71,56 +71,56 @@ module _ (c : Call) where
       let k = starsRows (c .chain .catalogue) (c .index) (c .floor) in
       let d = demandRows s (length (c .chain .room)) (listed (c .chain) .report .count) in
       rw (listing-outcome (c .chain .samples) (s .width) (s .height) (s .threshold))
-      (lowest-append f (settingsRows s ++ (k ++ d)) ∙ ap (otherwise (lowest f)) (lowest-append (settingsRows s) (k ++ d) ∙ ap (otherwise (lowest (settingsRows s))) (lowest-append k d)))
+      (applying-append f (settingsRows s ++ (k ++ d)) ∙ ap (otherwise (firstApplying f)) (applying-append (settingsRows s) (k ++ d) ∙ ap (otherwise (firstApplying (settingsRows s))) (applying-append k d)))
 
   -- with the right index the refusals are the plain chain's
-  test-refusals : isIndex (starsOf (c .chain .catalogue)) (c .floor) (c .index) ≡ true → lowest (refusalsOf c) ≡ lowest (plain.refusalsOf (c .chain))
+  test-refusals : isIndex (starsOf (c .chain .catalogue)) (c .floor) (c .index) ≡ true → firstApplying (refusalsOf c) ≡ firstApplying (plain.refusalsOf (c .chain))
   test-refusals t =
       refusals-joined
-      ∙ ap (λ (o : Outcome). otherwise (listed (c .chain) .outcome) (otherwise (lowest (settingsRows (c .chain .settings))) (otherwise o demand))) same
+      ∙ ap (λ (o : Outcome). otherwise (listed (c .chain) .outcome) (otherwise (firstApplying (settingsRows (c .chain .settings))) (otherwise o demand))) same
       ∙ sym (plain-laws.refusals-joined (c .chain))
     where
-      same : stars ≡ lowest (catalogue.refusalsOf (c .chain .catalogue))
-      same = stars-joined (c .chain .catalogue) (c .index) (c .floor) refl ∙ go (lowest (catalogue.refusalsOf (c .chain .catalogue)))
+      same : stars ≡ firstApplying (catalogue.refusalsOf (c .chain .catalogue))
+      same = stars-joined (c .chain .catalogue) (c .index) (c .floor) refl ∙ go (firstApplying (catalogue.refusalsOf (c .chain .catalogue)))
         where
-          go : (o : Outcome) → otherwise o (lowest (indexRows (starsOf (c .chain .catalogue)) (c .index) (c .floor))) ≡ o
+          go : (o : Outcome) → otherwise o (firstApplying (indexRows (starsOf (c .chain .catalogue)) (c .index) (c .floor))) ≡ o
           go Accepted = right-index (starsOf (c .chain .catalogue)) (c .index) (c .floor) t
           go (Refused r) = refl
 
   module _ (e : c .index ≡ indexOf (starsOf (c .chain .catalogue)) (c .floor)) where
-    pub right-refusals : lowest (refusalsOf c) ≡ lowest (plain.refusalsOf (c .chain))
+    pub right-refusals : firstApplying (refusalsOf c) ≡ firstApplying (plain.refusalsOf (c .chain))
     right-refusals = test-refusals (is-index (starsOf (c .chain .catalogue)) (c .floor) (c .index) e)
 
     -- the answer is the plain chain's, refused or not
     pub right-tracked : trackedOf c ≡ plain.trackedOf (c .chain)
     unfolding trackedOf plain.trackedOf
-    right-tracked = ap (answered refusedWith (plain.trackedOf (c .chain))) right-refusals ∙ go (lowest (plain.refusalsOf (c .chain))) refl
+    right-tracked = ap (answered refusedWith (plain.trackedOf (c .chain))) right-refusals ∙ go (firstApplying (plain.refusalsOf (c .chain))) refl
       where
-        go : (o : Outcome) → lowest (plain.refusalsOf (c .chain)) ≡ o → answered refusedWith (plain.trackedOf (c .chain)) o ≡ plain.trackedOf (c .chain)
+        go : (o : Outcome) → firstApplying (plain.refusalsOf (c .chain)) ≡ o → answered refusedWith (plain.trackedOf (c .chain)) o ≡ plain.trackedOf (c .chain)
         go Accepted k = refl
         go (Refused r) k = sym (ap (answered refusedWith (plain.locatedOf (listed (c .chain) .report) (c .chain .catalogue) (c .chain .settings))) k)
 
     -- and so is the room
     pub right-room : roomAfter c ≡ plain.roomAfter (c .chain)
     unfolding roomAfter plain.roomAfter
-    right-room = ap (answered (λ (r : Refusal). c .chain .room) (plain.roomAfter (c .chain))) right-refusals ∙ go (lowest (plain.refusalsOf (c .chain))) refl
+    right-room = ap (answered (λ (r : Refusal). c .chain .room) (plain.roomAfter (c .chain))) right-refusals ∙ go (firstApplying (plain.refusalsOf (c .chain))) refl
       where
-        go : (o : Outcome) → lowest (plain.refusalsOf (c .chain)) ≡ o → answered (λ (r : Refusal). c .chain .room) (plain.roomAfter (c .chain)) o ≡ plain.roomAfter (c .chain)
+        go : (o : Outcome) → firstApplying (plain.refusalsOf (c .chain)) ≡ o → answered (λ (r : Refusal). c .chain .room) (plain.roomAfter (c .chain)) o ≡ plain.roomAfter (c .chain)
         go Accepted k = refl
         go (Refused r) k = sym (ap (answered (λ (q : Refusal). c .chain .room) (plain.rankedRoom (listed (c .chain) .report) (c .chain .catalogue) (c .chain .settings) (c .chain .room))) k)
 
   -- a call that is not refused before it writes was handed the right index, and the plain chain is not refused there either
-  module _ (h : lowest (refusalsOf c) ≡ Accepted) where
+  module _ (h : firstApplying (refusalsOf c) ≡ Accepted) where
     pub accepted-right : c .index ≡ indexOf (starsOf (c .chain .catalogue)) (c .floor)
     accepted-right =
-        let a = otherwise-accepted (listed (c .chain) .outcome) (otherwise (lowest (settingsRows (c .chain .settings))) (otherwise stars demand)) (sym refusals-joined ∙ h) in
-        let b = otherwise-accepted (lowest (settingsRows (c .chain .settings))) (otherwise stars demand) (a .1) in
+        let a = otherwise-accepted (listed (c .chain) .outcome) (otherwise (firstApplying (settingsRows (c .chain .settings))) (otherwise stars demand)) (sym refusals-joined ∙ h) in
+        let b = otherwise-accepted (firstApplying (settingsRows (c .chain .settings))) (otherwise stars demand) (a .1) in
         let d = otherwise-accepted stars demand (b .1) in
-        let i = lowest (indexRows (starsOf (c .chain .catalogue)) (c .index) (c .floor)) in
-        let f = otherwise-accepted (lowest (catalogue.refusalsOf (c .chain .catalogue))) i (sym (stars-joined (c .chain .catalogue) (c .index) (c .floor) refl) ∙ d .0) in
+        let i = firstApplying (indexRows (starsOf (c .chain .catalogue)) (c .index) (c .floor)) in
+        let f = otherwise-accepted (firstApplying (catalogue.refusalsOf (c .chain .catalogue))) i (sym (stars-joined (c .chain .catalogue) (c .index) (c .floor) refl) ∙ d .0) in
         index-true (starsOf (c .chain .catalogue)) (c .floor) (c .index) (index-accepted (starsOf (c .chain .catalogue)) (c .index) (c .floor) (f .1))
 
-    pub accepted-plain : lowest (plain.refusalsOf (c .chain)) ≡ Accepted
+    pub accepted-plain : firstApplying (plain.refusalsOf (c .chain)) ≡ Accepted
     accepted-plain = sym (right-refusals accepted-right) ∙ h
 
     pub accepted-tracked : trackedOf c ≡ plain.locatedOf (listed (c .chain) .report) (c .chain .catalogue) (c .chain .settings)
@@ -132,7 +132,7 @@ module _ (c : Call) where
     accepted-room = right-room accepted-right ∙ ap (answered (λ (r : Refusal). c .chain .room) (plain.rankedRoom (listed (c .chain) .report) (c .chain .catalogue) (c .chain .settings) (c .chain .room))) accepted-plain
 
   -- a refusal before the writing
-  module _ (q : Refusal) (h : lowest (refusalsOf c) ≡ Refused q) where
+  module _ (q : Refusal) (h : firstApplying (refusalsOf c) ≡ Refused q) where
     pub refused-tracked : trackedOf c ≡ refusedWith q
     unfolding trackedOf
     refused-tracked = ap (answered refusedWith (plain.trackedOf (c .chain))) h
@@ -158,12 +158,12 @@ refusals-early c =
 
 module _ (c : Call) where
   -- the plain chain's answer, or a refusal before the ranking
-  by-index : (P : Tracked → Type 0) → (lowest (refusalsOf c) ≡ Accepted → P (plain.trackedOf (c .chain))) → ((q : Refusal) → Early (q .number) → P (refusedWith q)) → P (trackedOf c)
-  by-index P accepted refused = go (lowest (refusalsOf c)) refl
+  by-index : (P : Tracked → Type 0) → (firstApplying (refusalsOf c) ≡ Accepted → P (plain.trackedOf (c .chain))) → ((q : Refusal) → Early (q .number) → P (refusedWith q)) → P (trackedOf c)
+  by-index P accepted refused = go (firstApplying (refusalsOf c)) refl
     where
-      go : (o : Outcome) → lowest (refusalsOf c) ≡ o → P (trackedOf c)
+      go : (o : Outcome) → firstApplying (refusalsOf c) ≡ o → P (trackedOf c)
       go Accepted e = subst P (sym (right-tracked c (accepted-right c e))) (accepted e)
-      go (Refused q) e = subst P (sym (refused-tracked c q e)) (refused q (lowest-every Early (refusalsOf c) (refusals-early c) q e))
+      go (Refused q) e = subst P (sym (refused-tracked c q e)) (refused q (applying-every Early (refusalsOf c) (refusals-early c) q e))
 
   pub tracked-names : Tracks (c .chain) (trackedOf c)
   tracked-names =

@@ -11,8 +11,8 @@ use Rattle.counting.specs.Contradiction.{contradiction}
 use Rattle.refusal.specs.declared.Refusal.{Refusal}
 use Rattle.refusal.specs.declared.Outcome.{Outcome}
 use Rattle.refusal.specs.Numbers.{lens}
-use Rattle.refusal.specs.Table.{lowest, answered}
-use Rattle.refusal.specs.Laws.{lowest-here, Silent, silent-accepted}
+use Rattle.refusal.specs.Table.{firstApplying, answered}
+use Rattle.refusal.specs.Laws.{applying-here, Silent, silent-accepted}
 use Rattle.refusal.specs.AnswerLaws.{answerBy, answered-by}
 use Rattle.lens.specs.declared.Lens.{Lens}
 use Rattle.lens.specs.declared.Lens.the-variants.{Pixels}
@@ -23,12 +23,12 @@ use Rattle.lens.specs.Range.{both, between, range-above, whole-of}
 -- ---- which answer is given
 
 module _ (l : Lens) where
-  given : {o : Outcome} → lowest (refusalsOf l) ≡ o → focalOf l ≡ answered Refused (Whole (pos (focalNumber l))) o
+  given : {o : Outcome} → firstApplying (refusalsOf l) ≡ o → focalOf l ≡ answered Refused (Whole (pos (focalNumber l))) o
   unfolding focalOf
   given e = ap (λ (o : Outcome). answered Refused (Whole (pos (focalNumber l))) o) e
 
   pub lens-out : lensOk l ≡ false → focalOf l ≡ outOfRange
-  lens-out e = given (lowest-here _ _ (ap not e))
+  lens-out e = given (applying-here _ _ (ap not e))
 
   pub lens-in : lensOk l ≡ true → focalOf l ≡ Whole (pos (focalNumber l))
   unfolding Silent

@@ -7,7 +7,7 @@ use lib.Dec.{leb, ltb}
 use lib.IntN.{pos}
 use lib.Ieee.{Float, nan, inf, fin, binary64, up, down, ofInt, mul, div, lt}
 use Rattle.refusal.specs.Numbers.{lens}
-use Rattle.refusal.specs.Table.{Row, row, lowest, answered}
+use Rattle.refusal.specs.Table.{Row, row, firstApplying, answered}
 use Rattle.refusal.specs.Answer.{Answer, refusedWith, acceptedWith}
 use Rattle.lens.specs.declared.Lens.{Lens}
 use Rattle.lens.specs.declared.Lens.the-variants.{Millimetres, Pixels}
@@ -52,7 +52,7 @@ abbrev pub refusalsOf : Lens → List Row
 refusalsOf l = row (not (lensOk l)) lens ∷ []
 
 unfoldable pub focalOf : Lens → Focal
-focalOf l = answered Refused (Whole (pos (focalNumber l))) (lowest (refusalsOf l))
+focalOf l = answered Refused (Whole (pos (focalNumber l))) (firstApplying (refusalsOf l))
 
 abbrev pub outOfRange : Focal
 outOfRange = Refused (record { number = lens; place = 0 })

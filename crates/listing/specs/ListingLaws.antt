@@ -7,7 +7,7 @@ use Rattle.refusal.specs.declared.Refusal.{Refusal}
 use Rattle.refusal.specs.declared.Outcome.{Outcome}
 use Rattle.refusal.specs.declared.Outcome.the-variants.{Accepted, Refused}
 use Rattle.refusal.specs.Numbers as number
-use Rattle.refusal.specs.Table.{lowest, answered}
+use Rattle.refusal.specs.Table.{firstApplying, answered}
 use Rattle.catalogue.specs.Format.{recordsIn}
 use Rattle.tracker.specs.Chain.{Call, listed, refusalsOf, refusedWith, locatedOf, rankedRoom, ourIdentification, trackedOf, roomAfter, namesOf}
 use Rattle.tracker.specs.ChainLaws.{words-most, room-front, room-long}
@@ -15,11 +15,11 @@ use Rattle.tracker.specs.ReadyLaws.{refused-early, ready}
 use Rattle.listing.specs.Listing.{Refuses}
 
 module _ (c : Call) (r : Refusal) (ranking : List ℕ) (h : Refuses c r ranking) (e : r .number ≡ number.close) where
-  admitted : lowest (refusalsOf c) ≡ Accepted
+  admitted : firstApplying (refusalsOf c) ≡ Accepted
   unfolding trackedOf
-  admitted = by (lowest (refusalsOf c)) refl
+  admitted = by (firstApplying (refusalsOf c)) refl
     where
-      by : (o : Outcome) → lowest (refusalsOf c) ≡ o → o ≡ Accepted
+      by : (o : Outcome) → firstApplying (refusalsOf c) ≡ o → o ≡ Accepted
       by Accepted k = refl
       by (Refused q) k =
           let a : Refused q ≡ Refused r = sym (ap (λ (o : Outcome). answered refusedWith (locatedOf (listed c .report) (c .catalogue) (c .settings)) o .outcome) k) ∙ h .outcome in

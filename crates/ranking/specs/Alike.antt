@@ -5,7 +5,7 @@ use mathlib.Core.List.{List, _++_}
 use Prim.Native.Nat.{ℕ, _*_}
 use lib.IntN.{ℤ}
 use lib.ListN.{length, drop}
-use Rattle.refusal.specs.Table.{lowest, answered}
+use Rattle.refusal.specs.Table.{firstApplying, answered}
 use Rattle.direction.specs.ListLaws.{directionsIn}
 use Rattle.catalogue.specs.Stars.{starsOf}
 use Rattle.catalogue.specs.Alike.{Alike, stars-same, rows-same}
@@ -24,7 +24,7 @@ module _ {first second : List ℕ} (a : Alike first second) (directions : List �
   -- the call
   pub outcome-same : (room : List ℕ) → rankOutcomeOf directions first tolerance room ≡ rankOutcomeOf directions second tolerance room
   unfolding rankOutcomeOf refusalsOf
-  outcome-same room = (λ j. lowest (rows-same a j ++ rowsBeside directions (a .count j) tolerance (length room)))
+  outcome-same room = (λ j. firstApplying (rows-same a j ++ rowsBeside directions (a .count j) tolerance (length room)))
 
   pub room-same : (room : List ℕ) → roomAfter directions first tolerance room ≡ roomAfter directions second tolerance room
   unfolding roomAfter

@@ -8,8 +8,8 @@ use lib.IntN.{ℤ}
 use Rattle.refusal.specs.declared.Outcome.{Outcome}
 use Rattle.refusal.specs.declared.Outcome.the-variants.{Accepted, Refused}
 use Rattle.refusal.specs.Numbers as number
-use Rattle.refusal.specs.Table.{refusalOf, lowest, answered}
-use Rattle.refusal.specs.Laws.{lowest-here, lowest-next, lowest-append, silent-accepted, Silent}
+use Rattle.refusal.specs.Table.{refusalOf, firstApplying, answered}
+use Rattle.refusal.specs.Laws.{applying-here, applying-next, applying-append, silent-accepted, Silent}
 use Rattle.direction.specs.List.{listOk}
 use Rattle.direction.specs.ListLaws.{directionsIn}
 use Rattle.catalogue.specs.Format.{recordsIn}
@@ -17,28 +17,28 @@ use Rattle.catalogue.specs.Check as catalogue
 use Rattle.ranking.specs.Refusals.{rowsBeside, refusalsOf}
 
 module _ (directions : List ℤ) (stars tolerance words : ℕ) where
-  pub list-refused : listOk directions ≡ false → lowest (rowsBeside directions stars tolerance words) ≡ refusalOf number.directions 0
+  pub list-refused : listOk directions ≡ false → firstApplying (rowsBeside directions stars tolerance words) ≡ refusalOf number.directions 0
   unfolding rowsBeside
-  list-refused e = lowest-here _ _ (ap not e)
+  list-refused e = applying-here _ _ (ap not e)
 
   module _ (e : listOk directions ≡ true) where
-    pub tolerance-refused : 10000000000000000 < tolerance → lowest (rowsBeside directions stars tolerance words) ≡ refusalOf number.demand 0
+    pub tolerance-refused : 10000000000000000 < tolerance → firstApplying (rowsBeside directions stars tolerance words) ≡ refusalOf number.demand 0
     unfolding rowsBeside
-    tolerance-refused h = lowest-next _ _ (ap not e) ∙ lowest-here _ _ (ap not (lt-leb _ _ h))
+    tolerance-refused h = applying-next _ _ (ap not e) ∙ applying-here _ _ (ap not (lt-leb _ _ h))
 
     module _ (t : tolerance ≤ 10000000000000000) where
-      pub room-refused : words < directionsIn directions * stars → lowest (rowsBeside directions stars tolerance words) ≡ refusalOf number.room 0
+      pub room-refused : words < directionsIn directions * stars → firstApplying (rowsBeside directions stars tolerance words) ≡ refusalOf number.room 0
       unfolding rowsBeside
-      room-refused h = lowest-next _ _ (ap not e) ∙ lowest-next _ _ (ap not (le-leb _ _ t)) ∙ lowest-here _ _ (lt-ltb _ _ h)
+      room-refused h = applying-next _ _ (ap not e) ∙ applying-next _ _ (ap not (le-leb _ _ t)) ∙ applying-here _ _ (lt-ltb _ _ h)
 
-      pub none-refused : directionsIn directions * stars ≤ words → lowest (rowsBeside directions stars tolerance words) ≡ Accepted
+      pub none-refused : directionsIn directions * stars ≤ words → firstApplying (rowsBeside directions stars tolerance words) ≡ Accepted
       unfolding rowsBeside Silent
       none-refused h = silent-accepted _ (ap not e, (ap not (le-leb _ _ t), (le-ltb _ _ h, tt)))
 
 -- the catalogue's outcome first
-pub outcome-joined : (directions : List ℤ) (bytes : List ℕ) (tolerance words : ℕ) {o : Outcome} → lowest (catalogue.refusalsOf bytes) ≡ o
-    → lowest (refusalsOf directions bytes tolerance words) ≡ answered Refused (lowest (rowsBeside directions (recordsIn bytes) tolerance words)) o
+pub outcome-joined : (directions : List ℤ) (bytes : List ℕ) (tolerance words : ℕ) {o : Outcome} → firstApplying (catalogue.refusalsOf bytes) ≡ o
+    → firstApplying (refusalsOf directions bytes tolerance words) ≡ answered Refused (firstApplying (rowsBeside directions (recordsIn bytes) tolerance words)) o
 unfolding refusalsOf
 outcome-joined directions bytes tolerance words e =
-    lowest-append (catalogue.refusalsOf bytes) (rowsBeside directions (recordsIn bytes) tolerance words)
-    ∙ ap (answered Refused (lowest (rowsBeside directions (recordsIn bytes) tolerance words))) e
+    applying-append (catalogue.refusalsOf bytes) (rowsBeside directions (recordsIn bytes) tolerance words)
+    ∙ ap (answered Refused (firstApplying (rowsBeside directions (recordsIn bytes) tolerance words))) e

@@ -5,7 +5,7 @@ use Prim.Native.Nat.{ℕ, _*_}
 use lib.IntN.{ℤ}
 use lib.ListN.{length, drop}
 use Rattle.refusal.specs.declared.Outcome.{Outcome}
-use Rattle.refusal.specs.Table.{lowest, answered}
+use Rattle.refusal.specs.Table.{firstApplying, answered}
 use Rattle.refusal.specs.Answer.{Answer, refusedWith, acceptedWith}
 use Rattle.direction.specs.List.{listOk}
 use Rattle.direction.specs.ListLaws.{directionsIn}
@@ -17,7 +17,7 @@ use Rattle.ranking.specs.Refusals.{toleranceOk, roomShort, refusalsOf}
 
 -- the refusal, or that the call is accepted
 unfoldable pub rankOutcomeOf : List ℤ → List ℕ → ℕ → List ℕ → Outcome
-rankOutcomeOf directions bytes tolerance room = lowest (refusalsOf directions bytes tolerance (length room))
+rankOutcomeOf directions bytes tolerance room = firstApplying (refusalsOf directions bytes tolerance (length room))
 
 -- the ranking at the front and the other words as they were; a refusal changes no word
 unfoldable pub roomAfter : List ℤ → List ℕ → ℕ → List ℕ → List ℕ

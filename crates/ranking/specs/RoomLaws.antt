@@ -11,7 +11,7 @@ use Rattle.counting.specs.Contradiction.{contradiction}
 use Rattle.refusal.specs.declared.Refusal.{Refusal}
 use Rattle.refusal.specs.declared.Outcome.{Outcome}
 use Rattle.refusal.specs.declared.Outcome.the-variants.{Accepted, Refused}
-use Rattle.refusal.specs.Table.{lowest}
+use Rattle.refusal.specs.Table.{firstApplying}
 use Rattle.refusal.specs.Laws.{Silent, accepted-silent}
 use Rattle.refusal.specs.Answer.{answerOf}
 use Rattle.refusal.specs.AnswerLaws.{answerBy, outcome-by}
@@ -38,7 +38,7 @@ pub record Sound (directions : List ℤ) (bytes : List ℕ) (tolerance words : �
   pub room : directionsIn directions * recordsIn bytes ≤ words
 
 -- none of 8, 9 and 10 applies
-pub beside-sound : (directions : List ℤ) (stars tolerance words : ℕ) → lowest (rowsBeside directions stars tolerance words) ≡ Accepted
+pub beside-sound : (directions : List ℤ) (stars tolerance words : ℕ) → firstApplying (rowsBeside directions stars tolerance words) ≡ Accepted
     → Directions directions × (tolerance ≤ 10000000000000000) × (directionsIn directions * stars ≤ words)
 unfolding rowsBeside Silent
 beside-sound directions stars tolerance words e =
@@ -50,10 +50,10 @@ beside-sound directions stars tolerance words e =
 
 module _ (directions : List ℤ) (bytes : List ℕ) (tolerance words : ℕ) where
   -- accepted exactly where it does
-  pub accepted-sound : lowest (refusalsOf directions bytes tolerance words) ≡ Accepted → Sound directions bytes tolerance words
-  accepted-sound h = go (lowest (catalogue.refusalsOf bytes)) refl
+  pub accepted-sound : firstApplying (refusalsOf directions bytes tolerance words) ≡ Accepted → Sound directions bytes tolerance words
+  accepted-sound h = go (firstApplying (catalogue.refusalsOf bytes)) refl
     where
-      go : (o : Outcome) → lowest (catalogue.refusalsOf bytes) ≡ o → Sound directions bytes tolerance words
+      go : (o : Outcome) → firstApplying (catalogue.refusalsOf bytes) ≡ o → Sound directions bytes tolerance words
       go Accepted e =
           let b = beside-sound directions (recordsIn bytes) tolerance words (sym (outcome-joined directions bytes tolerance words e) ∙ h) in
           record { catalogue = accepted-valid bytes e; list = b .0; near = b .1; room = b .2 }
@@ -61,7 +61,7 @@ module _ (directions : List ℤ) (bytes : List ℕ) (tolerance words : ℕ) wher
           let d : Refused r ≡ Accepted = sym (outcome-joined directions bytes tolerance words e) ∙ h in
           contradiction (cc)
 
-  pub sound-accepted : Sound directions bytes tolerance words → lowest (refusalsOf directions bytes tolerance words) ≡ Accepted
+  pub sound-accepted : Sound directions bytes tolerance words → firstApplying (refusalsOf directions bytes tolerance words) ≡ Accepted
   sound-accepted s =
       outcome-joined directions bytes tolerance words (valid-accepted bytes (s .catalogue))
       ∙ none-refused directions (recordsIn bytes) tolerance words (directions-ok directions (s .list)) (s .near) (s .room)

@@ -46,7 +46,7 @@ pub fn rank(directions: &[i32], catalogue: &[u8], tolerance: u64, room: &mut [u1
     ensures { λ r. ⌜ now (room .exit) ≡ roomAfter (now (directions .entry)) (now (catalogue .entry)) tolerance (now (room .entry)) ⌝ }
     ensures { λ r. ⌜ answerOf r ≡ answerFor (now (directions .entry)) (now (catalogue .entry)) tolerance (now (room .entry)) ⌝ }
 {
-    let outcome = refused::lowest(directions, catalogue, tolerance, room.len());
+    let outcome = refused::first_refusal(directions, catalogue, tolerance, room.len());
     match outcome {
         Outcome::Refused(r) => Outcome::Refused(r),
         Outcome::Accepted => {

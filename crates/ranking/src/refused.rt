@@ -3,16 +3,16 @@ use catalogue::Checked;
 use refusal::Outcome;
 ghost use mathlib.Core.Path.{_≡_};
 ghost use Prim.Native.Nat.{_≤_};
-ghost use Rattle.refusal.specs.Table.{lowest as lowestOf};
+ghost use Rattle.refusal.specs.Table.{firstApplying};
 ghost use Rattle.ranking.specs.Refusals.{rowsBeside, refusalsOf};
 
 // How large a tolerance may be.
 const LARGEST_TOLERANCE: u64 = 10000000000000000;
 
-// The lowest of 8, 9 and 10, beside a catalogue of so many stars and a room of so many words.
+// The first of 8, 9 and 10, beside a catalogue of so many stars and a room of so many words.
 pub fn beside(directions: &[i32], stars: usize, tolerance: u64, words: usize) -> Outcome
     requires { ⌜ stars ≤ 512 ⌝ }
-    ensures { λ r. ⌜ r ≡ lowestOf (rowsBeside (now (directions .entry)) stars tolerance words) ⌝ }
+    ensures { λ r. ⌜ r ≡ firstApplying (rowsBeside (now (directions .entry)) stars tolerance words) ⌝ }
 {
     if !direction::list_ok(directions) {
         return refusal::plain(refusal::DIRECTIONS);
@@ -26,9 +26,14 @@ pub fn beside(directions: &[i32], stars: usize, tolerance: u64, words: usize) ->
     Outcome::Accepted
 }
 
-// The lowest of 6 to 10 that applies.
-pub(crate) fn lowest(directions: &[i32], catalogue: &[u8], tolerance: u64, words: usize) -> Outcome
-    ensures { λ r. ⌜ r ≡ lowestOf (refusalsOf (now (directions .entry)) (now (catalogue .entry)) tolerance words) ⌝ }
+// The first of 6 to 10 that applies.
+pub(crate) fn first_refusal(
+    directions: &[i32],
+    catalogue: &[u8],
+    tolerance: u64,
+    words: usize,
+) -> Outcome
+    ensures { λ r. ⌜ r ≡ firstApplying (refusalsOf (now (directions .entry)) (now (catalogue .entry)) tolerance words) ⌝ }
 {
     let checked = catalogue::check(catalogue);
     match checked {

@@ -11,7 +11,7 @@ use borrow.Author.Tests.{ltb-true, ltb-false}
 use Rattle.counting.specs.Contradiction.{contradiction}
 use Rattle.refusal.specs.declared.Outcome.{Outcome}
 use Rattle.refusal.specs.declared.Outcome.the-variants as outcomes
-use Rattle.refusal.specs.Table.{lowest, answered}
+use Rattle.refusal.specs.Table.{firstApplying, answered}
 use Rattle.refusal.specs.AnswerLaws.{answerBy, answered-by}
 use Rattle.window.specs.declared.Beating.{Beating}
 use Rattle.window.specs.declared.Beating.the-variants.{At, Nothing}
@@ -76,7 +76,7 @@ judgementIn row column (Given reason) = judgements.Judged (record { row = row; c
 pub judgement-is : (samples : List ℕ) (width height threshold row column : ℕ)
     → judgementIn row column (explanationOf samples width height threshold row column) ≡ judgementOf samples width height threshold row column
 unfolding explanationOf judgementOf
-judgement-is samples width height threshold row column = go (lowest (pixelRows samples width height threshold row column))
+judgement-is samples width height threshold row column = go (firstApplying (pixelRows samples width height threshold row column))
   where
     go : (o : Outcome)
         → judgementIn row column (answered Refused (Given (reasonOf samples width height threshold row column)) o)
@@ -88,7 +88,7 @@ judgement-is samples width height threshold row column = go (lowest (pixelRows s
 pub given-is : (samples : List ℕ) (width height threshold row column : ℕ) (reason : Reason)
     → explanationOf samples width height threshold row column ≡ Given reason → reason ≡ reasonOf samples width height threshold row column
 unfolding explanationOf
-given-is samples width height threshold row column reason = go (lowest (pixelRows samples width height threshold row column))
+given-is samples width height threshold row column reason = go (firstApplying (pixelRows samples width height threshold row column))
   where
     go : (o : Outcome) → answered Refused (Given (reasonOf samples width height threshold row column)) o ≡ Given reason → reason ≡ reasonOf samples width height threshold row column
     go outcomes.Accepted e = cc

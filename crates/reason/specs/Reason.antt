@@ -3,7 +3,7 @@ use mathlib.Core.Bool.{cond}
 use mathlib.Core.List.{List, [], _∷_}
 use Prim.Native.Nat.{ℕ}
 use lib.IntN.{ℤ, pos}
-use Rattle.refusal.specs.Table.{lowest, answered}
+use Rattle.refusal.specs.Table.{firstApplying, answered}
 use Rattle.refusal.specs.Answer.{Answer, refusedWith, acceptedWith}
 use Rattle.window.specs.declared.Beating.{Beating}
 use Rattle.window.specs.declared.Beating.the-variants.{At, Nothing}
@@ -42,7 +42,7 @@ reasonOf samples width height threshold row column =
 -- the reason, or the refusal
 unfoldable pub explanationOf : List ℕ → ℕ → ℕ → ℕ → ℕ → ℕ → Explanation
 explanationOf samples width height threshold row column =
-    answered Refused (Given (reasonOf samples width height threshold row column)) (lowest (pixelRows samples width height threshold row column))
+    answered Refused (Given (reasonOf samples width height threshold row column)) (firstApplying (pixelRows samples width height threshold row column))
 
 -- ---- a reason in numbers
 

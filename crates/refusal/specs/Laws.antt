@@ -1,4 +1,4 @@
--- What `lowest` is for: a refusal is given exactly when its row applies and no row before it does, and none is given exactly when no row applies.
+-- What `firstApplying` is for: a refusal is given exactly when its row applies and no row before it does, and none is given exactly when no row applies.
 -- Assumes nothing.
 use mathlib.Core.Bool.{Bool, true, false, cond}
 use mathlib.Core.Path.{_≡_, refl, ap, subst, _∙_}
@@ -8,17 +8,17 @@ use Rattle.counting.specs.Contradiction.{contradiction}
 use Rattle.refusal.specs.declared.Refusal.{Refusal}
 use Rattle.refusal.specs.declared.Outcome.{Outcome}
 use Rattle.refusal.specs.declared.Outcome.the-variants.{Accepted, Refused}
-use Rattle.refusal.specs.Table.{refusalOf, Row, rowAt, lowest, otherwise}
+use Rattle.refusal.specs.Table.{refusalOf, Row, rowAt, firstApplying, otherwise}
 
 -- ---- one row at a time, as the code meets them
 
-pub lowest-here : (r : Row) (rs : List Row) → r .applies ≡ true → lowest (r ∷ rs) ≡ refusalOf (r .number) (r .place)
-unfolding lowest
-lowest-here r rs e = rw e
+pub applying-here : (r : Row) (rs : List Row) → r .applies ≡ true → firstApplying (r ∷ rs) ≡ refusalOf (r .number) (r .place)
+unfolding firstApplying
+applying-here r rs e = rw e
 
-pub lowest-next : (r : Row) (rs : List Row) → r .applies ≡ false → lowest (r ∷ rs) ≡ lowest rs
-unfolding lowest
-lowest-next r rs e = rw e
+pub applying-next : (r : Row) (rs : List Row) → r .applies ≡ false → firstApplying (r ∷ rs) ≡ firstApplying rs
+unfolding firstApplying
+applying-next r rs e = rw e
 
 -- ---- all rows
 
@@ -34,21 +34,21 @@ pub record Given (rows : List Row) (n p : ℕ) : Type 0 where
   pub split : rows ≡ before ++ (rowAt true n p ∷ after)
   pub silent : Silent before
 
-silent-lowest : (rows : List Row) → Silent rows → lowest rows ≡ Accepted
-unfolding lowest Silent
-silent-lowest [] s = refl
-silent-lowest (r ∷ rs) s = rw (s .0) (silent-lowest rs (s .1))
+silent-applying : (rows : List Row) → Silent rows → firstApplying rows ≡ Accepted
+unfolding firstApplying Silent
+silent-applying [] s = refl
+silent-applying (r ∷ rs) s = rw (s .0) (silent-applying rs (s .1))
 
-skipped : (before : List Row) (r : Row) (after : List Row) → Silent before → r .applies ≡ true → lowest (before ++ (r ∷ after)) ≡ refusalOf (r .number) (r .place)
+skipped : (before : List Row) (r : Row) (after : List Row) → Silent before → r .applies ≡ true → firstApplying (before ++ (r ∷ after)) ≡ refusalOf (r .number) (r .place)
 unfolding Silent
-skipped [] r after s e = lowest-here r after e
-skipped (b ∷ bs) r after s e = lowest-next b (bs ++ (r ∷ after)) (s .0) ∙ skipped bs r after (s .1) e
+skipped [] r after s e = applying-here r after e
+skipped (b ∷ bs) r after s e = applying-next b (bs ++ (r ∷ after)) (s .0) ∙ skipped bs r after (s .1) e
 
-pub given-refused : (rows : List Row) (n p : ℕ) → Given rows n p → lowest rows ≡ refusalOf n p
-given-refused rows n p g = ap lowest (g .split) ∙ skipped (g .before) (rowAt true n p) (g .after) (g .silent) refl
+pub given-refused : (rows : List Row) (n p : ℕ) → Given rows n p → firstApplying rows ≡ refusalOf n p
+given-refused rows n p g = ap firstApplying (g .split) ∙ skipped (g .before) (rowAt true n p) (g .after) (g .silent) refl
 
-pub silent-accepted : (rows : List Row) → Silent rows → lowest rows ≡ Accepted
-silent-accepted = silent-lowest
+pub silent-accepted : (rows : List Row) → Silent rows → firstApplying rows ≡ Accepted
+silent-accepted = silent-applying
 
 -- the number and the place of a refusal, and 0 where there is none
 numberIn : Outcome → ℕ
@@ -59,7 +59,7 @@ placeIn : Outcome → ℕ
 placeIn Accepted = 0
 placeIn (Refused r) = r .place
 
-by-row : (c : Bool) (k q n p : ℕ) (rs : List Row) → (lowest rs ≡ refusalOf n p → Given rs n p) → cond c (refusalOf k q) (lowest rs) ≡ refusalOf n p → Given (rowAt c k q ∷ rs) n p
+by-row : (c : Bool) (k q n p : ℕ) (rs : List Row) → (firstApplying rs ≡ refusalOf n p → Given rs n p) → cond c (refusalOf k q) (firstApplying rs) ≡ refusalOf n p → Given (rowAt c k q ∷ rs) n p
 unfolding Silent numberIn placeIn
 by-row true k q n p rs f e =
     let a : k ≡ n = ap numberIn e in
@@ -69,28 +69,28 @@ by-row false k q n p rs f e =
     let g = f e in
     record { before = rowAt false k q ∷ g .before; after = g .after; split = ap (λ (l : List Row). rowAt false k q ∷ l) (g .split); silent = (refl, g .silent) }
 
-pub refused-given : (rows : List Row) (n p : ℕ) → lowest rows ≡ refusalOf n p → Given rows n p
-unfolding lowest
+pub refused-given : (rows : List Row) (n p : ℕ) → firstApplying rows ≡ refusalOf n p → Given rows n p
+unfolding firstApplying
 refused-given [] n p e = contradiction (cc)
 refused-given (r ∷ rs) n p e = by-row (r .applies) (r .number) (r .place) n p rs (refused-given rs n p) e
 
-by-silence : (c : Bool) (k q : ℕ) (rs : List Row) → (lowest rs ≡ Accepted → Silent rs) → cond c (refusalOf k q) (lowest rs) ≡ Accepted → (c ≡ false) × Silent rs
+by-silence : (c : Bool) (k q : ℕ) (rs : List Row) → (firstApplying rs ≡ Accepted → Silent rs) → cond c (refusalOf k q) (firstApplying rs) ≡ Accepted → (c ≡ false) × Silent rs
 by-silence true k q rs f e = contradiction (cc)
 by-silence false k q rs f e = (refl, f e)
 
-pub accepted-silent : (rows : List Row) → lowest rows ≡ Accepted → Silent rows
-unfolding lowest Silent
+pub accepted-silent : (rows : List Row) → firstApplying rows ≡ Accepted → Silent rows
+unfolding firstApplying Silent
 accepted-silent [] e = tt
 accepted-silent (r ∷ rs) e = by-silence (r .applies) (r .number) (r .place) rs (accepted-silent rs) e
 
 -- ---- rows behind rows: the first list's refusal, or the second's
 
-pub lowest-append : (xs ys : List Row) → lowest (xs ++ ys) ≡ otherwise (lowest xs) (lowest ys)
-unfolding lowest
-lowest-append [] ys = refl
-lowest-append (r ∷ rs) ys = by (r .applies) (lowest-append rs ys)
+pub applying-append : (xs ys : List Row) → firstApplying (xs ++ ys) ≡ otherwise (firstApplying xs) (firstApplying ys)
+unfolding firstApplying
+applying-append [] ys = refl
+applying-append (r ∷ rs) ys = by (r .applies) (applying-append rs ys)
   where
-    by : (c : Bool) → lowest (rs ++ ys) ≡ otherwise (lowest rs) (lowest ys) → cond c (refusalOf (r .number) (r .place)) (lowest (rs ++ ys)) ≡ otherwise (cond c (refusalOf (r .number) (r .place)) (lowest rs)) (lowest ys)
+    by : (c : Bool) → firstApplying (rs ++ ys) ≡ otherwise (firstApplying rs) (firstApplying ys) → cond c (refusalOf (r .number) (r .place)) (firstApplying (rs ++ ys)) ≡ otherwise (cond c (refusalOf (r .number) (r .place)) (firstApplying rs)) (firstApplying ys)
     by true e = refl
     by false e = e
 
@@ -109,12 +109,12 @@ unfolding Every
 every-append P [] ys a b = b
 every-append P (x ∷ xs) ys a b = (a .0, every-append P xs ys (a .1) b)
 
-by-number : (P : ℕ → Type 0) (c : Bool) (k p : ℕ) (rs : List Row) (q : Refusal) → P k → (lowest rs ≡ Refused q → P (q .number)) → cond c (refusalOf k p) (lowest rs) ≡ Refused q → P (q .number)
+by-number : (P : ℕ → Type 0) (c : Bool) (k p : ℕ) (rs : List Row) (q : Refusal) → P k → (firstApplying rs ≡ Refused q → P (q .number)) → cond c (refusalOf k p) (firstApplying rs) ≡ Refused q → P (q .number)
 unfolding numberIn
 by-number P true k p rs q h f e = subst P (ap numberIn e) h
 by-number P false k p rs q h f e = f e
 
-pub lowest-every : (P : ℕ → Type 0) (rows : List Row) → Every P rows → (q : Refusal) → lowest rows ≡ Refused q → P (q .number)
-unfolding lowest Every
-lowest-every P [] a q e = contradiction (cc)
-lowest-every P (r ∷ rs) a q e = by-number P (r .applies) (r .number) (r .place) rs q (a .0) (lowest-every P rs (a .1) q) e
+pub applying-every : (P : ℕ → Type 0) (rows : List Row) → Every P rows → (q : Refusal) → firstApplying rows ≡ Refused q → P (q .number)
+unfolding firstApplying Every
+applying-every P [] a q e = contradiction (cc)
+applying-every P (r ∷ rs) a q e = by-number P (r .applies) (r .number) (r .place) rs q (a .0) (applying-every P rs (a .1) q) e

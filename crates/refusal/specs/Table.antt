@@ -25,9 +25,9 @@ abbrev pub rowAt : Bool → ℕ → ℕ → Row
 rowAt c n p = record { applies = c; number = n; place = p }
 
 -- the first row that applies
-unfoldable pub lowest : List Row → Outcome
-lowest [] = Accepted
-lowest (r ∷ rs) = cond (r .applies) (refusalOf (r .number) (r .place)) (lowest rs)
+unfoldable pub firstApplying : List Row → Outcome
+firstApplying [] = Accepted
+firstApplying (r ∷ rs) = cond (r .applies) (refusalOf (r .number) (r .place)) (firstApplying rs)
 
 -- what a call gives: f of the refusal, or a where none applies
 abbrev pub answered : {A : Type 0} → (Refusal → A) → A → Outcome → A

@@ -10,7 +10,7 @@ use Rattle.counting.specs.Contradiction.{contradiction}
 use Rattle.refusal.specs.declared.Refusal.{Refusal}
 use Rattle.refusal.specs.declared.Outcome.{Outcome}
 use Rattle.refusal.specs.declared.Outcome.the-variants.{Accepted, Refused}
-use Rattle.refusal.specs.Table.{lowest, answered}
+use Rattle.refusal.specs.Table.{firstApplying, answered}
 use Rattle.catalogue.specs.Stars.{starsOf}
 use Rattle.assignment.specs.Order.{Ranked, FirstOf}
 use Rattle.assignment.specs.Problem.{Problem, order, Passing, Local}
@@ -89,9 +89,9 @@ module _ (directions : List ℤ) (bytes : List ℕ) (needed tolerance : ℕ) (ws
   ours = identificationOf directions bytes needed tolerance ws
 
   -- where the search answers, none of 6 to 12 applies
-  pub none-refuses : ours .outcome ≡ Accepted → lowest (refusalsOf directions bytes needed tolerance ws) ≡ Accepted
+  pub none-refuses : ours .outcome ≡ Accepted → firstApplying (refusalsOf directions bytes needed tolerance ws) ≡ Accepted
   unfolding identificationOf
-  none-refuses h = by (lowest (refusalsOf directions bytes needed tolerance ws)) (found.foundOf (firstFit (problem (setupFor directions bytes needed tolerance) ws directions (starsOf bytes)))) h
+  none-refuses h = by (firstApplying (refusalsOf directions bytes needed tolerance ws)) (found.foundOf (firstFit (problem (setupFor directions bytes needed tolerance) ws directions (starsOf bytes)))) h
     where
       by : (o : Outcome) (i : Identification) → answered found.refusedWith i o .outcome ≡ Accepted → o ≡ Accepted
       by Accepted i e = refl
@@ -154,7 +154,7 @@ computed-contested directions bytes needed tolerance ws = by (identificationOf d
         let own = identificationOf directions bytes needed tolerance ws .stars in
         let s = setupFor directions bytes needed tolerance in
         let a = firstFit (rivals s own ws directions (starsOf bytes)) in
-        let n : lowest (refusalsOf directions bytes needed tolerance ws) ≡ Accepted = none-refuses directions bytes needed tolerance ws e in
+        let n : firstApplying (refusalsOf directions bytes needed tolerance ws) ≡ Accepted = none-refuses directions bytes needed tolerance ws e in
         rw e
         (subst (Contested directions bytes needed tolerance ws) (settled a)
         (judged-contested directions bytes needed tolerance ws e (answers.answerIn a)

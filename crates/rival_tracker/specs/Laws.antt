@@ -5,7 +5,7 @@ use mathlib.Core.List.{List}
 use Prim.Native.Nat.{ℕ}
 use Rattle.refusal.specs.declared.Refusal.{Refusal}
 use Rattle.refusal.specs.declared.Outcome.the-variants.{Accepted, Refused}
-use Rattle.refusal.specs.Table.{lowest, answered}
+use Rattle.refusal.specs.Table.{firstApplying, answered}
 use Rattle.frame.specs.declared.Report.{Report}
 use Rattle.tracker.specs.declared.Settings.{Settings}
 use Rattle.tracker.specs.Chain.{Call, listed, sightsOf, ourRanking, refusalsOf}
@@ -20,8 +20,8 @@ ContestedHere report bytes s = Contested (sightsOf report bytes s) bytes (s .nee
 
 -- refused as the chain is before it ranks; else the rivals of what the search finds for the frame's directions
 pub record Contests (c : Call) (r : Contest) : Type 0 where
-  pub refused : (q : Refusal) → lowest (refusalsOf c) ≡ Refused q → r ≡ refusedWith q
-  pub contested : lowest (refusalsOf c) ≡ Accepted → ContestedHere (listed c .report) (c .catalogue) (c .settings) r
+  pub refused : (q : Refusal) → firstApplying (refusalsOf c) ≡ Refused q → r ≡ refusedWith q
+  pub contested : firstApplying (refusalsOf c) ≡ Accepted → ContestedHere (listed c .report) (c .catalogue) (c .settings) r
 
 pub our-contested : (report : Report) (bytes : List ℕ) (s : Settings) → ContestedHere report bytes s (ourContest report bytes s)
 unfolding ourContest

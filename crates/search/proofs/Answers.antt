@@ -12,7 +12,7 @@ use Rattle.counting.specs.Contradiction.{contradiction}
 use Rattle.refusal.specs.declared.Refusal.{Refusal}
 use Rattle.refusal.specs.declared.Outcome.{Outcome}
 use Rattle.refusal.specs.declared.Outcome.the-variants.{Accepted, Refused}
-use Rattle.refusal.specs.Table.{Row, lowest, answered}
+use Rattle.refusal.specs.Table.{Row, firstApplying, answered}
 use Rattle.assignment.specs.Order.{Ranked, FirstOf}
 use Rattle.assignment.specs.Problem.{Problem, order, Passing}
 use Rattle.assignment.specs.Run.{nothing, fit, isFit, words, firstFit}
@@ -86,14 +86,14 @@ module _ (directions : List ℤ) (bytes : List ℕ) (needed tolerance : ℕ) (ws
   abbrev rows : List Row
   rows = refusalsOf directions bytes needed tolerance ws
 
-  apart : {A : Type 0} (q : Refusal) → lowest rows ≡ Refused q → lowest rows ≡ Accepted → A
+  apart : {A : Type 0} (q : Refusal) → firstApplying rows ≡ Refused q → firstApplying rows ≡ Accepted → A
   apart q e h = contradiction (cc)
 
-  pub refused-identified : (q : Refusal) → lowest rows ≡ Refused q → Identified directions bytes needed tolerance ws (refusedWith q)
+  pub refused-identified : (q : Refusal) → firstApplying rows ≡ Refused q → Identified directions bytes needed tolerance ws (refusedWith q)
   refused-identified q e = record { refused = λ p h i. record { outcome = (sym e ∙ h) i; stars = replicate 8 0 }; searched = λ h. apart q e h }
 
   -- what the search is handed where none of 6 to 12 applies
-  module _ (e : lowest rows ≡ Accepted) where
+  module _ (e : firstApplying rows ≡ Accepted) where
     pub valid : Valid bytes
     valid = accepted-valid bytes (all-accepted directions bytes needed tolerance ws e .0)
 
@@ -130,9 +130,9 @@ module _ (directions : List ℤ) (bytes : List ℕ) (needed tolerance : ℕ) (ws
 
 pub identified : (directions : List ℤ) (bytes : List ℕ) (needed tolerance : ℕ) (ws : List ℕ) (r : Identification) → Identified directions bytes needed tolerance ws r → r ≡ identificationOf directions bytes needed tolerance ws
 unfolding identificationOf
-identified directions bytes needed tolerance ws r I = by (lowest (refusalsOf directions bytes needed tolerance ws)) refl
+identified directions bytes needed tolerance ws r I = by (firstApplying (refusalsOf directions bytes needed tolerance ws)) refl
   where
-    by : (o : Outcome) → lowest (refusalsOf directions bytes needed tolerance ws) ≡ o → r ≡ answered refusedWith (foundOf (firstFit (problem (setupFor directions bytes needed tolerance) ws directions (starsOf bytes)))) (lowest (refusalsOf directions bytes needed tolerance ws))
+    by : (o : Outcome) → firstApplying (refusalsOf directions bytes needed tolerance ws) ≡ o → r ≡ answered refusedWith (foundOf (firstFit (problem (setupFor directions bytes needed tolerance) ws directions (starsOf bytes)))) (firstApplying (refusalsOf directions bytes needed tolerance ws))
     by Accepted e = rw e (searched-found (setupFor directions bytes needed tolerance) ws directions (starsOf bytes) (accepted-ranked directions bytes needed tolerance ws e) r (I .searched e))
     by (Refused q) e = rw e (I .refused q e)
 
@@ -158,9 +158,9 @@ computed-first s ws directions stars R few =
 -- demand 3 of the computed answer, on every call
 pub computed-identified : (directions : List ℤ) (bytes : List ℕ) (needed tolerance : ℕ) (ws : List ℕ) → Identified directions bytes needed tolerance ws (identificationOf directions bytes needed tolerance ws)
 unfolding identificationOf
-computed-identified directions bytes needed tolerance ws = by (lowest (refusalsOf directions bytes needed tolerance ws)) refl
+computed-identified directions bytes needed tolerance ws = by (firstApplying (refusalsOf directions bytes needed tolerance ws)) refl
   where
-    by : (o : Outcome) → lowest (refusalsOf directions bytes needed tolerance ws) ≡ o → Identified directions bytes needed tolerance ws (identificationOf directions bytes needed tolerance ws)
+    by : (o : Outcome) → firstApplying (refusalsOf directions bytes needed tolerance ws) ≡ o → Identified directions bytes needed tolerance ws (identificationOf directions bytes needed tolerance ws)
     by (Refused q) e = rw e (refused-identified directions bytes needed tolerance ws q e)
     by Accepted e =
         let a = firstFit (problem (setupFor directions bytes needed tolerance) ws directions (starsOf bytes)) in

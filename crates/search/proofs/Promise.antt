@@ -11,7 +11,7 @@ use lib.IntN.{ℤ}
 use Rattle.refusal.specs.declared.Outcome.{Outcome}
 use Rattle.refusal.specs.declared.Outcome.the-variants.{Accepted, Refused}
 use Rattle.refusal.specs.Numbers as number
-use Rattle.refusal.specs.Table.{refusalOf, lowest}
+use Rattle.refusal.specs.Table.{refusalOf, firstApplying}
 use Rattle.direction.specs.List.{listOk}
 use Rattle.direction.specs.ListLaws.{directionsIn, directions-ok}
 use Rattle.catalogue.specs.Format.{recordsIn}
@@ -48,11 +48,11 @@ module _ (directions : List ℤ) (bytes : List ℕ) (needed tolerance : ℕ) (wo
   once : lentOf words (directionsIn directions) (recordsIn bytes) ≡ Good
   once = ranked-good words (directionsIn directions) (recordsIn bytes) (v .size) (v .ranked)
 
-  beside : lowest (refusalsOf directions bytes needed tolerance words) ≡ lowest (rowsBeside directions (recordsIn bytes) needed tolerance words)
+  beside : firstApplying (refusalsOf directions bytes needed tolerance words) ≡ firstApplying (rowsBeside directions (recordsIn bytes) needed tolerance words)
   beside = catalogue-valid directions bytes needed tolerance words (valid-accepted bytes (v .catalogue))
 
   -- with enough directions none of 6 to 12 applies
-  pub none-refuses : needed ≤ directionsIn directions → lowest (refusalsOf directions bytes needed tolerance words) ≡ Accepted
+  pub none-refuses : needed ≤ directionsIn directions → firstApplying (refusalsOf directions bytes needed tolerance words) ≡ Accepted
   none-refuses l = beside ∙ none-applies directions (recordsIn bytes) needed tolerance words listed demanded once l
 
   -- the assignments that fit

@@ -11,8 +11,8 @@ use Rattle.refusal.specs.declared.Refusal.{Refusal}
 use Rattle.refusal.specs.declared.Outcome.{Outcome}
 use Rattle.refusal.specs.declared.Outcome.the-variants.{Accepted, Refused}
 use Rattle.refusal.specs.Numbers as number
-use Rattle.refusal.specs.Table.{Row, refusalOf, lowest, answered}
-use Rattle.refusal.specs.Laws.{Silent, accepted-silent, lowest-append}
+use Rattle.refusal.specs.Table.{Row, refusalOf, firstApplying, answered}
+use Rattle.refusal.specs.Laws.{Silent, accepted-silent, applying-append}
 use Rattle.assignment.specs.Order.{Ranked}
 use Rattle.assignment.proofs.Tests as tests
 use Rattle.direction.specs.List.{listOk}
@@ -39,30 +39,30 @@ pub record Asked (directions : List ℤ) (stars needed tolerance : ℕ) (words :
 
 module _ (directions : List ℤ) (stars needed tolerance : ℕ) (words : List ℕ) where
   -- the rows one after the other
-  pub not-listed : listOk directions ≡ false → lowest (rowsBeside directions stars needed tolerance words) ≡ refusalOf number.directions 0
-  unfolding rowsBeside lowest
+  pub not-listed : listOk directions ≡ false → firstApplying (rowsBeside directions stars needed tolerance words) ≡ refusalOf number.directions 0
+  unfolding rowsBeside firstApplying
   not-listed e = rw e
 
   module _ (listed : listOk directions ≡ true) where
-    pub not-in-range : demandOk needed tolerance ≡ false → lowest (rowsBeside directions stars needed tolerance words) ≡ refusalOf number.demand 0
-    unfolding rowsBeside lowest
+    pub not-in-range : demandOk needed tolerance ≡ false → firstApplying (rowsBeside directions stars needed tolerance words) ≡ refusalOf number.demand 0
+    unfolding rowsBeside firstApplying
     not-in-range e = rw (listed, e)
 
     module _ (demand : demandOk needed tolerance ≡ true) where
-      pub not-once : (q : ℕ) → lentOf words (directionsIn directions) stars ≡ Bad q → lowest (rowsBeside directions stars needed tolerance words) ≡ refusalOf number.ranking q
-      unfolding rowsBeside lowest
+      pub not-once : (q : ℕ) → lentOf words (directionsIn directions) stars ≡ Bad q → firstApplying (rowsBeside directions stars needed tolerance words) ≡ refusalOf number.ranking q
+      unfolding rowsBeside firstApplying
       not-once q e = rw (listed, demand, e)
 
       module _ (good : lentOf words (directionsIn directions) stars ≡ Good) where
-        pub too-few : directionsIn directions < needed → lowest (rowsBeside directions stars needed tolerance words) ≡ refusalOf number.few 0
-        unfolding rowsBeside lowest
+        pub too-few : directionsIn directions < needed → firstApplying (rowsBeside directions stars needed tolerance words) ≡ refusalOf number.few 0
+        unfolding rowsBeside firstApplying
         too-few l = rw (listed, demand, good, lt-ltb (directionsIn directions) needed l)
 
-        pub none-applies : needed ≤ directionsIn directions → lowest (rowsBeside directions stars needed tolerance words) ≡ Accepted
-        unfolding rowsBeside lowest
+        pub none-applies : needed ≤ directionsIn directions → firstApplying (rowsBeside directions stars needed tolerance words) ≡ Accepted
+        unfolding rowsBeside firstApplying
         none-applies l = rw (listed, demand, good, le-ltb (directionsIn directions) needed l)
 
-  pub beside-asked : lowest (rowsBeside directions stars needed tolerance words) ≡ Accepted → Asked directions stars needed tolerance words
+  pub beside-asked : firstApplying (rowsBeside directions stars needed tolerance words) ≡ Accepted → Asked directions stars needed tolerance words
   unfolding rowsBeside Silent
   beside-asked e =
       let s = accepted-silent (rowsBeside directions stars needed tolerance words) e in
@@ -74,25 +74,25 @@ module _ (directions : List ℤ) (stars needed tolerance : ℕ) (words : List �
       }
 
 module _ (directions : List ℤ) (bytes : List ℕ) (needed tolerance : ℕ) (words : List ℕ) where
-  pub catalogue-refused : (r : Refusal) → lowest (catalogue.refusalsOf bytes) ≡ Refused r → lowest (refusalsOf directions bytes needed tolerance words) ≡ Refused r
+  pub catalogue-refused : (r : Refusal) → firstApplying (catalogue.refusalsOf bytes) ≡ Refused r → firstApplying (refusalsOf directions bytes needed tolerance words) ≡ Refused r
   unfolding refusalsOf
-  catalogue-refused r e = lowest-append (catalogue.refusalsOf bytes) _ ∙ ap (answered Refused (lowest (rowsBeside directions (recordsIn bytes) needed tolerance words))) e
+  catalogue-refused r e = applying-append (catalogue.refusalsOf bytes) _ ∙ ap (answered Refused (firstApplying (rowsBeside directions (recordsIn bytes) needed tolerance words))) e
 
-  pub catalogue-valid : lowest (catalogue.refusalsOf bytes) ≡ Accepted → lowest (refusalsOf directions bytes needed tolerance words) ≡ lowest (rowsBeside directions (recordsIn bytes) needed tolerance words)
+  pub catalogue-valid : firstApplying (catalogue.refusalsOf bytes) ≡ Accepted → firstApplying (refusalsOf directions bytes needed tolerance words) ≡ firstApplying (rowsBeside directions (recordsIn bytes) needed tolerance words)
   unfolding refusalsOf
-  catalogue-valid e = lowest-append (catalogue.refusalsOf bytes) _ ∙ ap (answered Refused (lowest (rowsBeside directions (recordsIn bytes) needed tolerance words))) e
+  catalogue-valid e = applying-append (catalogue.refusalsOf bytes) _ ∙ ap (answered Refused (firstApplying (rowsBeside directions (recordsIn bytes) needed tolerance words))) e
 
   -- none of 6 to 12 applies: neither the catalogue's nor the rest
-  pub all-accepted : lowest (refusalsOf directions bytes needed tolerance words) ≡ Accepted → (lowest (catalogue.refusalsOf bytes) ≡ Accepted) × Asked directions (recordsIn bytes) needed tolerance words
+  pub all-accepted : firstApplying (refusalsOf directions bytes needed tolerance words) ≡ Accepted → (firstApplying (catalogue.refusalsOf bytes) ≡ Accepted) × Asked directions (recordsIn bytes) needed tolerance words
   unfolding refusalsOf
-  all-accepted e = by (lowest (catalogue.refusalsOf bytes)) refl (sym (lowest-append (catalogue.refusalsOf bytes) rest) ∙ e)
+  all-accepted e = by (firstApplying (catalogue.refusalsOf bytes)) refl (sym (applying-append (catalogue.refusalsOf bytes) rest) ∙ e)
     where
       rest : List Row
       rest = rowsBeside directions (recordsIn bytes) needed tolerance words
 
-      by : (o : Outcome) → lowest (catalogue.refusalsOf bytes) ≡ o → answered Refused (lowest rest) o ≡ Accepted → (lowest (catalogue.refusalsOf bytes) ≡ Accepted) × Asked directions (recordsIn bytes) needed tolerance words
+      by : (o : Outcome) → firstApplying (catalogue.refusalsOf bytes) ≡ o → answered Refused (firstApplying rest) o ≡ Accepted → (firstApplying (catalogue.refusalsOf bytes) ≡ Accepted) × Asked directions (recordsIn bytes) needed tolerance words
       by Accepted q h = (q, beside-asked directions (recordsIn bytes) needed tolerance words h)
       by (Refused r) q h = contradiction (cc)
 
-  pub accepted-ranked : lowest (refusalsOf directions bytes needed tolerance words) ≡ Accepted → Ranked (rankingOf (directionsIn directions) (recordsIn bytes) words)
+  pub accepted-ranked : firstApplying (refusalsOf directions bytes needed tolerance words) ≡ Accepted → Ranked (rankingOf (directionsIn directions) (recordsIn bytes) words)
   accepted-ranked e = good-ranked words (directionsIn directions) (recordsIn bytes) (all-accepted e .1 .good) .1

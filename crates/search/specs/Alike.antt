@@ -3,7 +3,7 @@ use mathlib.Core.Path.{_≡_}
 use mathlib.Core.List.{List, _++_}
 use Prim.Native.Nat.{ℕ}
 use lib.IntN.{ℤ}
-use Rattle.refusal.specs.Table.{lowest, answered}
+use Rattle.refusal.specs.Table.{firstApplying, answered}
 use Rattle.direction.specs.ListLaws.{directionsIn}
 use Rattle.catalogue.specs.Alike.{Alike, stars-same, rows-same}
 use Rattle.assignment.specs.Run as run
@@ -19,4 +19,4 @@ search-same a directions needed tolerance words =
     (λ j.
     answered refusedWith
     (foundOf (run.firstFit (problem (record { dirs = directionsIn directions; stars = a .count j; needed = needed; tolerance = tolerance }) words directions (stars-same a j))))
-    (lowest (rows-same a j ++ rowsBeside directions (a .count j) needed tolerance words)))
+    (firstApplying (rows-same a j ++ rowsBeside directions (a .count j) needed tolerance words)))

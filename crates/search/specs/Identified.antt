@@ -10,7 +10,7 @@ use Rattle.refusal.specs.declared.Refusal.{Refusal}
 use Rattle.refusal.specs.declared.Outcome.{Outcome}
 use Rattle.refusal.specs.declared.Outcome.the-variants.{Accepted, Refused}
 use Rattle.refusal.specs.Numbers as number
-use Rattle.refusal.specs.Table.{lowest, answered}
+use Rattle.refusal.specs.Table.{firstApplying, answered}
 use Rattle.direction.specs.ListLaws.{directionsIn}
 use Rattle.catalogue.specs.Format.{recordsIn}
 use Rattle.catalogue.specs.Stars.{starsOf}
@@ -48,10 +48,10 @@ pub record Searched (s : Setup) (words : List ℕ) (directions stars : List ℤ)
 abbrev pub answerOf : Answer → Identification
 answerOf a = cond (a .found) (record { outcome = Accepted; stars = a .stars }) (refusedWith noFit)
 
--- the lowest of 6 to 12 that applies is given; where none does, the search's own answer
+-- the first of 6 to 12 that applies is given; where none does, the search's own answer
 pub record Identified (directions : List ℤ) (bytes : List ℕ) (needed tolerance : ℕ) (words : List ℕ) (r : Identification) : Type 0 where
-  pub refused : (q : Refusal) → lowest (refusalsOf directions bytes needed tolerance words) ≡ Refused q → r ≡ refusedWith q
-  pub searched : lowest (refusalsOf directions bytes needed tolerance words) ≡ Accepted → Searched (setupFor directions bytes needed tolerance) words directions (starsOf bytes) r
+  pub refused : (q : Refusal) → firstApplying (refusalsOf directions bytes needed tolerance words) ≡ Refused q → r ≡ refusedWith q
+  pub searched : firstApplying (refusalsOf directions bytes needed tolerance words) ≡ Accepted → Searched (setupFor directions bytes needed tolerance) words directions (starsOf bytes) r
 
 -- the first n words, with zeros behind the last
 unfoldable pub padTo : ℕ → List ℕ → List ℕ
@@ -66,4 +66,4 @@ foundOf (run.fit xs) = record { outcome = Accepted; stars = padTo 8 xs }
 unfoldable pub identificationOf : List ℤ → List ℕ → ℕ → ℕ → List ℕ → Identification
 identificationOf directions bytes needed tolerance words =
     answered refusedWith (foundOf (run.firstFit (problem (setupFor directions bytes needed tolerance) words directions (starsOf bytes))))
-    (lowest (refusalsOf directions bytes needed tolerance words))
+    (firstApplying (refusalsOf directions bytes needed tolerance words))

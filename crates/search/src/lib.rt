@@ -67,7 +67,7 @@ fn settled(answer: Answer) -> Identification
     }
 }
 
-// Which star each direction is: the first assignment in the ranking's order that fits. Refused with the lowest of 6 to 12 that applies, and
+// Which star each direction is: the first assignment in the ranking's order that fits. Refused with the first of 6 to 12 that applies, and
 // with 13 where no assignment fits.
 pub fn search(
     directions: &[i32],
@@ -78,7 +78,7 @@ pub fn search(
 ) -> Identification
     ensures { λ r. ⌜ Identified (now (directions .entry)) (now (catalogue .entry)) needed tolerance (now (ranking .entry)) r × (r ≡ identificationOf (now (directions .entry)) (now (catalogue .entry)) needed tolerance (now (ranking .entry))) ⌝ }
 {
-    let outcome = refused::lowest(directions, catalogue, needed, tolerance, ranking);
+    let outcome = refused::first_refusal(directions, catalogue, needed, tolerance, ranking);
     match outcome {
         Outcome::Refused(r) => Identification {
             outcome: Outcome::Refused(r),

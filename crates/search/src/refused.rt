@@ -5,7 +5,7 @@ use catalogue::Checked;
 use refusal::Outcome;
 ghost use mathlib.Core.Path.{_≡_};
 ghost use Prim.Native.Nat.{_≤_};
-ghost use Rattle.refusal.specs.Table.{lowest as lowestOf};
+ghost use Rattle.refusal.specs.Table.{firstApplying};
 ghost use Rattle.search.specs.Refusals.{demandOk, rowsBeside, refusalsOf};
 
 // Whether the needed count and the tolerance are in range.
@@ -21,7 +21,7 @@ pub(crate) fn demand_ok(needed: usize, tolerance: u64) -> bool
     tolerance <= 10000000000000000
 }
 
-// The lowest of 8, 9, 11 and 12, beside a catalogue of so many stars.
+// The first of 8, 9, 11 and 12, beside a catalogue of so many stars.
 fn beside(
     directions: &[i32],
     stars: usize,
@@ -30,7 +30,7 @@ fn beside(
     ranking: &[u16],
 ) -> Outcome
     requires { ⌜ stars ≤ 512 ⌝ }
-    ensures { λ r. ⌜ r ≡ lowestOf (rowsBeside (now (directions .entry)) stars needed tolerance (now (ranking .entry))) ⌝ }
+    ensures { λ r. ⌜ r ≡ firstApplying (rowsBeside (now (directions .entry)) stars needed tolerance (now (ranking .entry))) ⌝ }
 {
     if !direction::list_ok(directions) {
         return refusal::plain(refusal::DIRECTIONS);
@@ -51,15 +51,15 @@ fn beside(
     }
 }
 
-// The lowest of 6 to 12 that applies.
-pub(crate) fn lowest(
+// The first of 6 to 12 that applies.
+pub(crate) fn first_refusal(
     directions: &[i32],
     catalogue: &[u8],
     needed: usize,
     tolerance: u64,
     ranking: &[u16],
 ) -> Outcome
-    ensures { λ r. ⌜ r ≡ lowestOf (refusalsOf (now (directions .entry)) (now (catalogue .entry)) needed tolerance (now (ranking .entry))) ⌝ }
+    ensures { λ r. ⌜ r ≡ firstApplying (refusalsOf (now (directions .entry)) (now (catalogue .entry)) needed tolerance (now (ranking .entry))) ⌝ }
 {
     let checked = catalogue::check(catalogue);
     match checked {

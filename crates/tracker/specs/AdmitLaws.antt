@@ -8,8 +8,8 @@ use lib.Dec.{ltb}
 use lib.ListN.{length}
 use Rattle.refusal.specs.declared.Outcome.the-variants.{Accepted}
 use Rattle.refusal.specs.Numbers as number
-use Rattle.refusal.specs.Table.{refusalOf, lowest, otherwise}
-use Rattle.refusal.specs.Laws.{lowest-append}
+use Rattle.refusal.specs.Table.{refusalOf, firstApplying, otherwise}
+use Rattle.refusal.specs.Laws.{applying-append}
 use Rattle.frame_input.specs.Input.{frameRows}
 use Rattle.frame.specs.ListingLaws.{listing-outcome}
 use Rattle.lens.specs.Lens.{lensOk}
@@ -20,37 +20,37 @@ use Rattle.tracker.specs.declared.Settings.{Settings}
 use Rattle.tracker.specs.Chain.{Call, listed, settingsRows, demandRows, refusalsOf}
 
 module _ (s : Settings) where
-  pub lens-refused : lensOk (s .lens) ≡ false → lowest (settingsRows s) ≡ refusalOf number.lens 0
-  unfolding settingsRows lowest
+  pub lens-refused : lensOk (s .lens) ≡ false → firstApplying (settingsRows s) ≡ refusalOf number.lens 0
+  unfolding settingsRows firstApplying
   lens-refused e = rw e
 
-  pub settings-refused : lensOk (s .lens) ≡ true → positionOk (s .cx) (s .cy) ≡ false → lowest (settingsRows s) ≡ refusalOf number.settings 0
-  unfolding settingsRows lowest
+  pub settings-refused : lensOk (s .lens) ≡ true → positionOk (s .cx) (s .cy) ≡ false → firstApplying (settingsRows s) ≡ refusalOf number.settings 0
+  unfolding settingsRows firstApplying
   settings-refused e k = rw (e, k)
 
-  pub settings-passed : lensOk (s .lens) ≡ true → positionOk (s .cx) (s .cy) ≡ true → lowest (settingsRows s) ≡ Accepted
-  unfolding settingsRows lowest
+  pub settings-passed : lensOk (s .lens) ≡ true → positionOk (s .cx) (s .cy) ≡ true → firstApplying (settingsRows s) ≡ Accepted
+  unfolding settingsRows firstApplying
   settings-passed e k = rw (e, k)
 
   module _ (words count : ℕ) where
-    pub demand-refused : demandOk (s .needed) (s .tolerance) ≡ false → lowest (demandRows s words count) ≡ refusalOf number.demand 0
-    unfolding demandRows lowest
+    pub demand-refused : demandOk (s .needed) (s .tolerance) ≡ false → firstApplying (demandRows s words count) ≡ refusalOf number.demand 0
+    unfolding demandRows firstApplying
     demand-refused e = rw e
 
-    pub room-refused : demandOk (s .needed) (s .tolerance) ≡ true → words < 4096 → lowest (demandRows s words count) ≡ refusalOf number.room 0
-    unfolding demandRows lowest
+    pub room-refused : demandOk (s .needed) (s .tolerance) ≡ true → words < 4096 → firstApplying (demandRows s words count) ≡ refusalOf number.room 0
+    unfolding demandRows firstApplying
     room-refused e h = rw (e, lt-ltb words 4096 h)
 
-    pub few-refused : demandOk (s .needed) (s .tolerance) ≡ true → 4096 ≤ words → count < s .needed → lowest (demandRows s words count) ≡ refusalOf number.few 0
-    unfolding demandRows lowest
+    pub few-refused : demandOk (s .needed) (s .tolerance) ≡ true → 4096 ≤ words → count < s .needed → firstApplying (demandRows s words count) ≡ refusalOf number.few 0
+    unfolding demandRows firstApplying
     few-refused e h k = rw (e, le-ltb words 4096 h, lt-ltb count (s .needed) k)
 
-    pub demand-passed : demandOk (s .needed) (s .tolerance) ≡ true → 4096 ≤ words → s .needed ≤ count → lowest (demandRows s words count) ≡ Accepted
-    unfolding demandRows lowest
+    pub demand-passed : demandOk (s .needed) (s .tolerance) ≡ true → 4096 ≤ words → s .needed ≤ count → firstApplying (demandRows s words count) ≡ Accepted
+    unfolding demandRows firstApplying
     demand-passed e h k = rw (e, le-ltb words 4096 h, le-ltb count (s .needed) k)
 
 -- the first of the four parts that refuses
-pub refusals-joined : (c : Call) → lowest (refusalsOf c) ≡ otherwise (listed c .outcome) (otherwise (lowest (settingsRows (c .settings))) (otherwise (lowest (catalogue.refusalsOf (c .catalogue))) (lowest (demandRows (c .settings) (length (c .room)) (listed c .report .count)))))
+pub refusals-joined : (c : Call) → firstApplying (refusalsOf c) ≡ otherwise (listed c .outcome) (otherwise (firstApplying (settingsRows (c .settings))) (otherwise (firstApplying (catalogue.refusalsOf (c .catalogue))) (firstApplying (demandRows (c .settings) (length (c .room)) (listed c .report .count)))))
 unfolding refusalsOf
 refusals-joined c =
     let s = c .settings in
@@ -58,4 +58,4 @@ refusals-joined c =
     let k = catalogue.refusalsOf (c .catalogue) in
     let d = demandRows s (length (c .room)) (listed c .report .count) in
     rw (listing-outcome (c .samples) (s .width) (s .height) (s .threshold))
-    (lowest-append f (settingsRows s ++ (k ++ d)) ∙ ap (otherwise (lowest f)) (lowest-append (settingsRows s) (k ++ d) ∙ ap (otherwise (lowest (settingsRows s))) (lowest-append k d)))
+    (applying-append f (settingsRows s ++ (k ++ d)) ∙ ap (otherwise (firstApplying f)) (applying-append (settingsRows s) (k ++ d) ∙ ap (otherwise (firstApplying (settingsRows s))) (applying-append k d)))

@@ -6,7 +6,7 @@ use Prim.Native.Nat.{ℕ, _*_}
 use lib.IntN.{ℤ}
 use lib.ListN.{length, drop}
 use Rattle.refusal.specs.declared.Outcome.{Outcome}
-use Rattle.refusal.specs.Table.{lowest, answered}
+use Rattle.refusal.specs.Table.{firstApplying, answered}
 use Rattle.frame.specs.declared.Report.{Report}
 use Rattle.frame_input.specs.Input.{frameRows}
 use Rattle.frame.specs.Calls.{listingOf}
@@ -58,11 +58,11 @@ module _ {first second : List ℕ} (a : Alike first second) where
     abbrev other : Call
     other = call samples second s room
 
-    pub outcome-same : lowest (refusalsOf one) ≡ lowest (refusalsOf other)
+    pub outcome-same : firstApplying (refusalsOf one) ≡ firstApplying (refusalsOf other)
     unfolding refusalsOf
     outcome-same =
         (λ j.
-        lowest
+        firstApplying
         (frameRows samples (s .width) (s .height) (s .threshold)
         ++ (settingsRows s ++ (rows-same a j ++ demandRows s (length room) (listed one .report .count)))))
 

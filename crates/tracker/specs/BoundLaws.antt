@@ -11,7 +11,7 @@ use Rattle.refusal.specs.declared.Refusal.{Refusal}
 use Rattle.refusal.specs.declared.Outcome.{Outcome}
 use Rattle.refusal.specs.declared.Outcome.the-variants.{Accepted, Refused}
 use Rattle.refusal.specs.Numbers as number
-use Rattle.refusal.specs.Table.{Row, refusalOf, rowAt, lowest, answered, otherwise}
+use Rattle.refusal.specs.Table.{Row, refusalOf, rowAt, firstApplying, answered, otherwise}
 use Rattle.refusal.specs.Answer.{answerOf}
 use Rattle.numbers.specs.Within.{Within}
 use Rattle.vectors.specs.declared.Vec3.{Vec3}
@@ -50,12 +50,12 @@ pub record Low (o : Outcome) : Type 0 where
 accepted-low : Low Accepted
 accepted-low = record { number = zero-le; place = zero-le }
 
-none-low : Low (lowest [])
-unfolding lowest
+none-low : Low (firstApplying [])
+unfolding firstApplying
 none-low = accepted-low
 
-row-low : (c : Bool) (n p : ℕ) (rows : List Row) → n ≤ 19 → (c ≡ true → p ≤ 1048576) → (c ≡ false → Low (lowest rows)) → Low (lowest (rowAt c n p ∷ rows))
-unfolding lowest
+row-low : (c : Bool) (n p : ℕ) (rows : List Row) → n ≤ 19 → (c ≡ true → p ≤ 1048576) → (c ≡ false → Low (firstApplying rows)) → Low (firstApplying (rowAt c n p ∷ rows))
+unfolding firstApplying
 row-low true n p rows h f g = record { number = h; place = f refl }
 row-low false n p rows h f g = g refl
 
@@ -63,7 +63,7 @@ otherwise-low : (a b : Outcome) → Low a → Low b → Low (otherwise a b)
 otherwise-low Accepted b h k = k
 otherwise-low (Refused r) b h k = h
 
-frame-low : (samples : List ℕ) (width height threshold : ℕ) → Low (lowest (frameRows samples width height threshold))
+frame-low : (samples : List ℕ) (width height threshold : ℕ) → Low (firstApplying (frameRows samples width height threshold))
 frame-low samples width height threshold =
     row-low _ 1 0 _ (omega arith) (λ _. zero-le) (λ size.
     row-low _ 2 0 _ (omega arith) (λ _. zero-le) (λ whole.
@@ -73,10 +73,10 @@ frame-low samples width height threshold =
     (λ _. none-low))))
 
 -- a row that names no place
-plain-low : (c : Bool) (n : ℕ) (rows : List Row) → n ≤ 19 → Low (lowest rows) → Low (lowest (rowAt c n 0 ∷ rows))
+plain-low : (c : Bool) (n : ℕ) (rows : List Row) → n ≤ 19 → Low (firstApplying rows) → Low (firstApplying (rowAt c n 0 ∷ rows))
 plain-low c n rows h k = row-low c n 0 rows h (λ _. zero-le) (λ _. k)
 
-catalogue-low : (bytes : List ℕ) → Low (lowest (catalogue.refusalsOf bytes))
+catalogue-low : (bytes : List ℕ) → Low (firstApplying (catalogue.refusalsOf bytes))
 unfolding catalogueRows
 catalogue-low bytes =
     row-low _ 6 0 _ (omega arith) (λ _. zero-le) (λ right.
@@ -84,7 +84,7 @@ catalogue-low bytes =
     (λ broken. omega (arith, ltb-true (brokenOf bytes) (recordsIn bytes) broken, ok-length bytes (not-false (lengthOk (length bytes)) right) .most))
     (λ _. none-low))
 
-rows-low : (c : Call) → Low (lowest (refusalsOf c))
+rows-low : (c : Call) → Low (firstApplying (refusalsOf c))
 unfolding settingsRows demandRows
 rows-low c =
     let s = c .settings in
@@ -121,9 +121,9 @@ module _ (report : Report) (bytes : List ℕ) (s : Settings) (room : List ℕ) (
 
 pub tracked-low : (c : Call) → Low (trackedOf c .outcome)
 unfolding trackedOf
-tracked-low c = by (lowest (refusalsOf c)) refl
+tracked-low c = by (firstApplying (refusalsOf c)) refl
   where
-    by : (o : Outcome) → lowest (refusalsOf c) ≡ o → Low (answered refusedWith (locatedOf (listed c .report) (c .catalogue) (c .settings)) o .outcome)
+    by : (o : Outcome) → firstApplying (refusalsOf c) ≡ o → Low (answered refusedWith (locatedOf (listed c .report) (c .catalogue) (c .settings)) o .outcome)
     by (Refused r) e = subst Low e (rows-low c)
     by Accepted e = located-low (listed c .report) (c .catalogue) (c .settings) (c .room) (ready c e)
 
@@ -150,7 +150,7 @@ located-within report bytes s = by (ourIdentification report bytes s .outcome)
 -- every entry of an answer's matrix is within 6 * 10^9, also where it is refused
 pub tracked-within : (c : Call) → MatrixWithin 6000000000 (trackedOf c .matrix)
 unfolding trackedOf
-tracked-within c = by (lowest (refusalsOf c))
+tracked-within c = by (firstApplying (refusalsOf c))
   where
     by : (o : Outcome) → MatrixWithin 6000000000 (answered refusedWith (locatedOf (listed c .report) (c .catalogue) (c .settings)) o .matrix)
     by (Refused r) = refused-within r

@@ -8,7 +8,7 @@ use lib.ListN.{length, take, drop, replicate}
 use Rattle.refusal.specs.declared.Refusal.{Refusal}
 use Rattle.refusal.specs.declared.Outcome.the-variants as outcome
 use Rattle.refusal.specs.Numbers as number
-use Rattle.refusal.specs.Table.{Row, row, lowest, answered}
+use Rattle.refusal.specs.Table.{Row, row, firstApplying, answered}
 use Rattle.vectors.specs.declared.Vec3.{Vec3}
 use Rattle.frame.specs.declared.Report.{Report}
 use Rattle.frame.specs.declared.Listing.{Listing}
@@ -103,11 +103,11 @@ refusalsOf c =
     ++ demandRows (c .settings) (length (c .room)) (listed c .report .count)))
 
 unfoldable pub trackedOf : Call → Tracked
-trackedOf c = answered refusedWith (locatedOf (listed c .report) (c .catalogue) (c .settings)) (lowest (refusalsOf c))
+trackedOf c = answered refusedWith (locatedOf (listed c .report) (c .catalogue) (c .settings)) (firstApplying (refusalsOf c))
 
 -- one of 1 to 12 or 19 leaves the room untouched; from there on the ranking stands in it, also where 13 or 14 is given
 unfoldable pub roomAfter : Call → List ℕ
-roomAfter c = answered (λ r. c .room) (rankedRoom (listed c .report) (c .catalogue) (c .settings) (c .room)) (lowest (refusalsOf c))
+roomAfter c = answered (λ r. c .room) (rankedRoom (listed c .report) (c .catalogue) (c .settings) (c .room)) (firstApplying (refusalsOf c))
 
 -- the search's own answer for the call's directions over a ranking, which the chain leaves in the room where it gives 13 or 14
 unfoldable pub namesOf : List ℕ → List ℕ → Settings → List ℕ → Identification

@@ -11,7 +11,7 @@ use Rattle.refusal.specs.declared.Refusal.{Refusal}
 use Rattle.refusal.specs.declared.Outcome.{Outcome}
 use Rattle.refusal.specs.declared.Outcome.the-variants.{Accepted, Refused}
 use Rattle.refusal.specs.Numbers as number
-use Rattle.refusal.specs.Table.{refusalOf, lowest, answered}
+use Rattle.refusal.specs.Table.{refusalOf, firstApplying, answered}
 use Rattle.frame.specs.declared.Report.{Report}
 use Rattle.frame.specs.Calls.{listingOf}
 use Rattle.direction.specs.ListLaws.{directionsIn}
@@ -69,9 +69,9 @@ module _ (report : Report) (bytes : List ℕ) (s : Settings) where
 module _ (c : Call) where
   pub tracked-names : Tracks c (trackedOf c)
   unfolding trackedOf
-  tracked-names = by (lowest (refusalsOf c)) refl
+  tracked-names = by (firstApplying (refusalsOf c)) refl
     where
-      by : (o : Outcome) → lowest (refusalsOf c) ≡ o → Tracks c (trackedOf c)
+      by : (o : Outcome) → firstApplying (refusalsOf c) ≡ o → Tracks c (trackedOf c)
       by Accepted e = rw e (located-names (listed c .report) (c .catalogue) (c .settings) (c .room) (ready c e))
       by (Refused q) e = rw e (refused-names (listed c .report) (c .catalogue) (c .settings) q (refused-early c q e .no-13))
 
@@ -98,7 +98,7 @@ unfolding trackedOf locatedOf settledOf
 tracked-whole c e =
     let report = listed c .report in
     let ours = ourIdentification report (c .catalogue) (c .settings) in
-    let w = settled-words report (ours .stars) (orientationOf (sightsOf report (c .catalogue) (c .settings)) (starsOf (c .catalogue)) (ours .stars)) (ours .outcome) (lowest (refusalsOf c)) e in
+    let w = settled-words report (ours .stars) (orientationOf (sightsOf report (c .catalogue) (c .settings)) (starsOf (c .catalogue)) (ours .stars)) (ours .outcome) (firstApplying (refusalsOf c)) e in
     let h = ready c (w .0) in
     let counted = sights-count report (c .catalogue) (c .settings) (h .few) (h .size) in
     let f = our-search report (c .catalogue) (c .settings) (c .room) h ours (our-identified report (c .catalogue) (c .settings)) in
@@ -123,7 +123,7 @@ early-numbered q a = record { some = a .some; last = a .last; none = λ e. absur
 
 module _ (c : Call) where
   -- where none of 1 to 12 and 19 applies, an accepted call, 13 or 14
-  pub tracked-late : lowest (refusalsOf c) ≡ Accepted
+  pub tracked-late : firstApplying (refusalsOf c) ≡ Accepted
       → (trackedOf c .outcome ≡ Accepted) ⊎ ((trackedOf c .outcome ≡ refusalOf number.noFit 0) ⊎ ((q : Refusal) × (trackedOf c .outcome ≡ Refused q) × (q .number ≡ number.close)))
   unfolding trackedOf
   tracked-late e = rw e (by (locatedOf (listed c .report) (c .catalogue) (c .settings) .outcome) refl)
@@ -138,9 +138,9 @@ module _ (c : Call) where
 
   pub tracked-numbered : (q : Refusal) → trackedOf c .outcome ≡ Refused q → Numbered q
   unfolding trackedOf numberIn
-  tracked-numbered q h = by (lowest (refusalsOf c)) refl
+  tracked-numbered q h = by (firstApplying (refusalsOf c)) refl
     where
-      by : (o : Outcome) → lowest (refusalsOf c) ≡ o → Numbered q
+      by : (o : Outcome) → firstApplying (refusalsOf c) ≡ o → Numbered q
       by (Refused r) e =
           let n : r .number ≡ q .number = ap numberIn (sym (ap (λ (o : Outcome). answered refusedWith (locatedOf (listed c .report) (c .catalogue) (c .settings)) o .outcome) e) ∙ h) in
           let a = refused-early c r e in

@@ -9,7 +9,7 @@ use Rattle.counting.specs.Contradiction.{contradiction}
 use Rattle.refusal.specs.declared.Refusal.{Refusal}
 use Rattle.refusal.specs.declared.Outcome.{Outcome}
 use Rattle.refusal.specs.declared.Outcome.the-variants.{Accepted, Refused}
-use Rattle.refusal.specs.Table.{lowest, answered}
+use Rattle.refusal.specs.Table.{firstApplying, answered}
 use Rattle.vectors.specs.Triples.{AllWithin, tripleAt}
 use Rattle.vectors.specs.Laws.{triple-within}
 use Rattle.frame.specs.declared.Report.{Report}
@@ -76,9 +76,9 @@ module _ (report : Report) (bytes : List ℕ) (s : Settings) (room : List ℕ) (
 
 pub never : (c : Call) (q : Refusal) → trackedOf c .outcome ≡ Refused q → (q .number ≡ number.directions → ⊥) × (q .number ≡ number.ranking → ⊥)
 unfolding trackedOf numberIn
-never c q e = by (lowest (refusalsOf c)) refl
+never c q e = by (firstApplying (refusalsOf c)) refl
   where
-    by : (o : Outcome) → lowest (refusalsOf c) ≡ o → (q .number ≡ number.directions → ⊥) × (q .number ≡ number.ranking → ⊥)
+    by : (o : Outcome) → firstApplying (refusalsOf c) ≡ o → (q .number ≡ number.directions → ⊥) × (q .number ≡ number.ranking → ⊥)
     by (Refused r) k =
         let n = ap numberIn (sym (ap (λ (o : Outcome). answered refusedWith (locatedOf (listed c .report) (c .catalogue) (c .settings)) o .outcome) k) ∙ e) in
         let a = refused-early c r k in

@@ -10,8 +10,8 @@ use Rattle.counting.specs.Contradiction.{contradiction}
 use Rattle.refusal.specs.declared.Refusal.{Refusal}
 use Rattle.refusal.specs.declared.Outcome.{Outcome}
 use Rattle.refusal.specs.declared.Outcome.the-variants.{Accepted, Refused}
-use Rattle.refusal.specs.Table.{Row, lowest, otherwise}
-use Rattle.refusal.specs.Laws.{Silent, accepted-silent, otherwise-accepted, Every, every-append, lowest-every}
+use Rattle.refusal.specs.Table.{Row, firstApplying, otherwise}
+use Rattle.refusal.specs.Laws.{Silent, accepted-silent, otherwise-accepted, Every, every-append, applying-every}
 use Rattle.frame.specs.declared.Report.{Report}
 use Rattle.frame_input.specs.Input.{frameRows}
 use Rattle.frame.specs.Calls.{listingOf}
@@ -48,7 +48,7 @@ demand-says needed tolerance e =
     let b = and-eq-true-iff (leb 3 needed) (leb needed 8) .0 (a .0) in
     (leb-true 3 needed (b .0), leb-true needed 8 (b .1), leb-true tolerance 10000000000000000 (a .1))
 
-demand-rows : (s : Settings) (words count : ℕ) → lowest (demandRows s words count) ≡ Accepted → (demandOk (s .needed) (s .tolerance) ≡ true) × (4096 ≤ words) × (s .needed ≤ count)
+demand-rows : (s : Settings) (words count : ℕ) → firstApplying (demandRows s words count) ≡ Accepted → (demandOk (s .needed) (s .tolerance) ≡ true) × (4096 ≤ words) × (s .needed ≤ count)
 unfolding demandRows Silent
 demand-rows s words count e =
     let a = accepted-silent (demandRows s words count) e in
@@ -56,13 +56,13 @@ demand-rows s words count e =
 
 -- ---- the call
 
-pub ready : (c : Call) → lowest (refusalsOf c) ≡ Accepted → Ready (listed c .report) (c .catalogue) (c .settings) (c .room)
+pub ready : (c : Call) → firstApplying (refusalsOf c) ≡ Accepted → Ready (listed c .report) (c .catalogue) (c .settings) (c .room)
 ready c e =
     let s = c .settings in
-    let stars = lowest (catalogue.refusalsOf (c .catalogue)) in
-    let demand = lowest (demandRows s (length (c .room)) (listed c .report .count)) in
-    let a = otherwise-accepted (listed c .outcome) (otherwise (lowest (settingsRows s)) (otherwise stars demand)) (sym (refusals-joined c) ∙ e) in
-    let b = otherwise-accepted (lowest (settingsRows s)) (otherwise stars demand) (a .1) in
+    let stars = firstApplying (catalogue.refusalsOf (c .catalogue)) in
+    let demand = firstApplying (demandRows s (length (c .room)) (listed c .report .count)) in
+    let a = otherwise-accepted (listed c .outcome) (otherwise (firstApplying (settingsRows s)) (otherwise stars demand)) (sym (refusals-joined c) ∙ e) in
+    let b = otherwise-accepted (firstApplying (settingsRows s)) (otherwise stars demand) (a .1) in
     let k = otherwise-accepted stars demand (b .1) in
     let d = demand-rows s (length (c .room)) (listed c .report .count) (k .1) in
     let q = demand-says (s .needed) (s .tolerance) (d .0) in
@@ -116,5 +116,5 @@ refusals-early c =
     (every-append Early (settingsRows s) (k ++ d) (early 19 refl, (early 5 refl, tt))
     (every-append Early k d (early 6 refl, (early 7 refl, tt)) (early 9 refl, (early 10 refl, (early 12 refl, tt)))))
 
-pub refused-early : (c : Call) (q : Refusal) → lowest (refusalsOf c) ≡ Refused q → Early (q .number)
-refused-early c = lowest-every Early (refusalsOf c) (refusals-early c)
+pub refused-early : (c : Call) (q : Refusal) → firstApplying (refusalsOf c) ≡ Refused q → Early (q .number)
+refused-early c = applying-every Early (refusalsOf c) (refusals-early c)

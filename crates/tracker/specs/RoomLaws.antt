@@ -6,7 +6,7 @@ use native.Mathlib.Omega.{arith}
 use lib.ListN.{length, drop, length-append, length-drop}
 use Rattle.refusal.specs.declared.Outcome.{Outcome}
 use Rattle.refusal.specs.declared.Outcome.the-variants.{Accepted, Refused}
-use Rattle.refusal.specs.Table.{lowest, answered}
+use Rattle.refusal.specs.Table.{firstApplying, answered}
 use Rattle.frame_input.specs.Input.{frameRows}
 use Rattle.frame.specs.Calls.{listingOf}
 use Rattle.catalogue.specs.Format.{recordsIn}
@@ -22,13 +22,13 @@ module _ (samples bytes : List ℕ) (s : Settings) where
   any-room before after e =
       let report = listingOf samples (s .width) (s .height) (s .threshold) .report in
       let rows = frameRows samples (s .width) (s .height) (s .threshold) in
-      ap (λ (n : ℕ). answered refusedWith (locatedOf report bytes s) (lowest (rows ++ (settingsRows s ++ (catalogue.refusalsOf bytes ++ demandRows s n (report .count)))))) e
+      ap (λ (n : ℕ). answered refusedWith (locatedOf report bytes s) (firstApplying (rows ++ (settingsRows s ++ (catalogue.refusalsOf bytes ++ demandRows s n (report .count)))))) e
 
 pub room-length : (c : Call) → length (roomAfter c) ≡ length (c .room)
 unfolding roomAfter rankedRoom
-room-length c = by (lowest (refusalsOf c)) refl
+room-length c = by (firstApplying (refusalsOf c)) refl
   where
-    by : (o : Outcome) → lowest (refusalsOf c) ≡ o → length (answered (λ r. c .room) (rankedRoom (listed c .report) (c .catalogue) (c .settings) (c .room)) o) ≡ length (c .room)
+    by : (o : Outcome) → firstApplying (refusalsOf c) ≡ o → length (answered (λ r. c .room) (rankedRoom (listed c .report) (c .catalogue) (c .settings) (c .room)) o) ≡ length (c .room)
     by (Refused r) e = refl
     by Accepted e =
         let report = listed c .report in

@@ -10,7 +10,7 @@ use Rattle.refusal.specs.declared.Refusal.{Refusal}
 use Rattle.refusal.specs.declared.Outcome.{Outcome}
 use Rattle.refusal.specs.declared.Outcome.the-variants.{Accepted, Refused}
 use Rattle.refusal.specs.Numbers as number
-use Rattle.refusal.specs.Table.{refusalOf, lowest, answered}
+use Rattle.refusal.specs.Table.{refusalOf, firstApplying, answered}
 use Rattle.vectors.specs.declared.Vec3.{Vec3}
 use Rattle.frame.specs.declared.Report.{Report}
 use Rattle.catalogue.specs.Stars.{starsOf}
@@ -36,7 +36,7 @@ numberAt (attitude.Found m) = 0
 
 -- the attitude is refused with 8 or 14
 attitude-13 : (v1 v2 w1 w2 : Vec3) → numberAt (attitudeOf v1 v2 w1 w2) ≡ number.noFit → ⊥
-unfolding attitudeOf lowest numberAt
+unfolding attitudeOf firstApplying numberAt
 attitude-13 v1 v2 w1 w2 e = by (outOfRange v1 v2 w1 w2) (eitherClose v1 v2 w1 w2) e
   where
     by : (a b : Bool) → numberAt (answered attitude.Refused (attitude.Found (matrixOf v1 v2 w1 w2)) (cond a (refusalOf number.directions 0) (cond b (refusalOf number.close 0) Accepted))) ≡ number.noFit → ⊥

@@ -4,7 +4,7 @@ use catalogue::Checked;
 use direction::settings::position_ok;
 use refusal::Outcome;
 ghost use mathlib.Core.Path.{_≡_};
-ghost use Rattle.refusal.specs.Table.{lowest, otherwise};
+ghost use Rattle.refusal.specs.Table.{firstApplying, otherwise};
 ghost use Rattle.refusal.specs.Answer.{answerOf};
 ghost use Rattle.catalogue.specs.Check.{refusalsOf};
 ghost use Rattle.search.specs.Refusals.{demandOk};
@@ -16,7 +16,7 @@ const ROOM: usize = 4096;
 
 // 19, and then 5.
 fn settings_outcome(settings: Settings) -> Outcome
-    ensures { λ r. ⌜ r ≡ lowest (settingsRows settings) ⌝ }
+    ensures { λ r. ⌜ r ≡ firstApplying (settingsRows settings) ⌝ }
 {
     let lens = settings.lens;
     if !lens::lens_ok(lens) {
@@ -30,7 +30,7 @@ fn settings_outcome(settings: Settings) -> Outcome
 
 // 6 and 7.
 pub fn catalogue_outcome(bytes: &[u8]) -> Outcome
-    ensures { λ r. ⌜ r ≡ lowest (refusalsOf (now (bytes .entry))) ⌝ }
+    ensures { λ r. ⌜ r ≡ firstApplying (refusalsOf (now (bytes .entry))) ⌝ }
     ensures { λ r. ⌜ answerOf r ≡ catalogueAnswer (now (bytes .entry)) ⌝ }
 {
     match catalogue::check(bytes) {
@@ -41,7 +41,7 @@ pub fn catalogue_outcome(bytes: &[u8]) -> Outcome
 
 // 9, 10 and 12, for a room of so many words and so many listed stars.
 fn demand_outcome(settings: Settings, words: usize, count: usize) -> Outcome
-    ensures { λ r. ⌜ r ≡ lowest (demandRows settings words count) ⌝ }
+    ensures { λ r. ⌜ r ≡ firstApplying (demandRows settings words count) ⌝ }
 {
     let needed = settings.needed;
     if !search::demand_ok(needed, settings.tolerance) {
@@ -64,7 +64,7 @@ pub fn outcome(
     settings: Settings,
     words: usize,
 ) -> Outcome
-    ensures { λ r. ⌜ r ≡ otherwise frame (otherwise (lowest (settingsRows settings)) (otherwise stars (lowest (demandRows settings words count)))) ⌝ }
+    ensures { λ r. ⌜ r ≡ otherwise frame (otherwise (firstApplying (settingsRows settings)) (otherwise stars (firstApplying (demandRows settings words count)))) ⌝ }
     ensures { λ r. ⌜ answerOf r ≡ admitAnswer frame stars settings words count ⌝ }
 {
     let demand = demand_outcome(settings, words, count);

@@ -3,7 +3,7 @@ use borrow.Author.Needs.{needs}
 use mathlib.Core.Path.{_≡_, sym, ap, _∙_}
 use native.Mathlib.Omega.{arith}
 use Rattle.refusal.specs.declared.Outcome.the-variants.{Accepted}
-use Rattle.refusal.specs.Table.{lowest}
+use Rattle.refusal.specs.Table.{firstApplying}
 use Rattle.frame_input.specs.InputLaws.{size-most}
 use Rattle.burst.specs.Burst.{Call, call, refusalsOf, answerOf}
 use Rattle.burst.specs.Admit.{size-some, accepted-size, accepted-whole, answers}
@@ -22,7 +22,7 @@ whole o = let a = start o .args in call (a .samples .now) (a .catalogue .now) (a
 abbrev tested : tie.After-enum-told → tie.After-outcome
 tested c = c .before .before
 
-accepted : (c : tie.After-enum-told) → lowest (refusalsOf (whole (tested c))) ≡ Accepted
+accepted : (c : tie.After-enum-told) → firstApplying (refusalsOf (whole (tested c))) ≡ Accepted
 accepted c = sym (tested c .outcome .ensures) ∙ c .enum-told .given .1
 
 -- ---- the needs

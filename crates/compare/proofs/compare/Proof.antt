@@ -6,7 +6,7 @@ use native.Mathlib.Omega.{arith}
 use lib.ListN.{length}
 use Rattle.refusal.specs.declared.Outcome.{Outcome}
 use Rattle.refusal.specs.declared.Outcome.the-variants.{Accepted}
-use Rattle.refusal.specs.Table.{lowest, answered}
+use Rattle.refusal.specs.Table.{firstApplying, answered}
 use Rattle.compare.specs.declared.Compared.{Compared}
 use Rattle.compare.specs.declared.Compared.the-variants.{Refused, Records}
 use Rattle.changes.specs.Changes.{listed, changesOf}
@@ -18,7 +18,7 @@ use Rattle.compare.proofs.compare.Statement.{statement}
 use Rattle.compare.proofs.compare.Tie as tie
 
 -- what the rows come to settles the answer and the room
-settled : (first second room : List ℕ) {o : Outcome} {r : Compared} {after : List ℕ} → lowest (refusalsOf first second (length room)) ≡ o
+settled : (first second room : List ℕ) {o : Outcome} {r : Compared} {after : List ℕ} → firstApplying (refusalsOf first second (length room)) ≡ o
     → r ≡ answered Refused (Records (length (listed first second))) o → after ≡ answered (λ _. room) (atFront (changesOf first second) room) o
     → (r ≡ comparedOf first second (length room)) × ((after ≡ roomAfter first second room) × (answerOf r ≡ answerFor first second (length room)))
 settled first second room e a b =
@@ -28,7 +28,7 @@ settled first second room e a b =
 abbrev start : tie.After-enum-told → tie.Start
 start c = c .before .before .before .before .before .before
 
-accepted : (c : tie.After-enum-told) → lowest (cataloguesRefused (start c .args .first .now) (start c .args .second .now)) ≡ Accepted
+accepted : (c : tie.After-enum-told) → firstApplying (cataloguesRefused (start c .args .first .now) (start c .args .second .now)) ≡ Accepted
 accepted c = sym (c .before .before .judge .ensures) ∙ c .enum-told .given .1
 
 judge-requires : tie.Need-judge-requires

@@ -11,7 +11,7 @@ use lib.ListN.{length}
 use Rattle.refusal.specs.declared.Refusal.{Refusal}
 use Rattle.refusal.specs.declared.Outcome.the-variants.{Accepted, Refused}
 use Rattle.refusal.specs.Numbers as number
-use Rattle.refusal.specs.Table.{refusalOf, lowest}
+use Rattle.refusal.specs.Table.{refusalOf, firstApplying}
 use Rattle.gimbal.specs.declared.Triple.{Triple}
 use Rattle.gimbal.specs.Cosines.{tripleFloats}
 use Rattle.gimbal.specs.Target.{turnedOf}
@@ -24,19 +24,19 @@ use Rattle.exports_gimbal.proofs.put_turned.Tie as tie
 
 module _ (rows target room : ℕ) where
   no-target : eqb target 3 ≡ false → turnedOutcome rows target room ≡ refusalOf number.directions 0
-  unfolding turnedOutcome lowest
+  unfolding turnedOutcome firstApplying
   no-target e = rw e
 
   no-room : eqb target 3 ≡ true → ltb room 3 ≡ true → turnedOutcome rows target room ≡ refusalOf number.recordsRoom 0
-  unfolding turnedOutcome lowest
+  unfolding turnedOutcome firstApplying
   no-room e f = rw (e, f)
 
   no-rows : eqb target 3 ≡ true → ltb room 3 ≡ false → eqb rows 9 ≡ false → turnedOutcome rows target room ≡ refusalOf number.entry 0
-  unfolding turnedOutcome lowest
+  unfolding turnedOutcome firstApplying
   no-rows e f g = rw (e, f, g)
 
   taken : eqb target 3 ≡ true → ltb room 3 ≡ false → eqb rows 9 ≡ true → turnedOutcome rows target room ≡ Accepted
-  unfolding turnedOutcome lowest
+  unfolding turnedOutcome firstApplying
   taken e f g = rw (e, f, g)
 
 module _ (rows target room : List Float) where

@@ -7,7 +7,7 @@ use native.Mathlib.Omega.{arith}
 use borrow.Author.Tests.{not-true, not-false, lt-ltb, le-ltb, eq-eqb, ne-eqb}
 use Rattle.refusal.specs.declared.Outcome.{Outcome}
 use Rattle.refusal.specs.Answer.{acceptedWith, answerOf}
-use Rattle.refusal.specs.Table.{lowest}
+use Rattle.refusal.specs.Table.{firstApplying}
 use Rattle.frame_input.specs.Input.{within, sizeOut, frameRows, frameAnswer}
 use Rattle.frame_input.specs.InputLaws.{size-most, frame-told}
 use Rattle.frame_input.proofs.frame_outcome.Statement.{statement}
@@ -21,8 +21,8 @@ threshold-ok : (c : tie.Else3) → within 1 4095 (c .before .before .before .bef
 threshold-ok c = sym (c .before .is-within .ensures) ∙ not-false _ (c .if3 .left)
 
 -- the second promise follows from the first
-told : (s : tie.Start) {o : Outcome} → let a = s .args in o ≡ lowest (frameRows (a .samples .now) (a .width) (a .height) (a .threshold))
-    → (o ≡ lowest (frameRows (a .samples .now) (a .width) (a .height) (a .threshold)))
+told : (s : tie.Start) {o : Outcome} → let a = s .args in o ≡ firstApplying (frameRows (a .samples .now) (a .width) (a .height) (a .threshold))
+    → (o ≡ firstApplying (frameRows (a .samples .now) (a .width) (a .height) (a .threshold)))
     × (answerOf o ≡ frameAnswer (a .samples .now) (a .width) (a .height) (a .threshold) (acceptedWith []))
 told s e = frame-told (s .args .samples .now) (s .args .width) (s .args .height) (s .args .threshold) e
 
@@ -33,7 +33,7 @@ plain-requires : tie.Need-plain-requires
 plain-requires c κs = search needs
 
 returns : tie.Need-returns
-unfolding lowest
+unfolding firstApplying
 returns c = told (c .before .before .before .before) (rw (sym (c .before .before .size-ok .ensures) ∙ c .before .if1 .taken) (c .plain .ensures))
 
 mul-if2 : tie.Need-mul-if2
@@ -43,7 +43,7 @@ plain-requires-2 : tie.Need-plain-requires-2
 plain-requires-2 c κs = search needs
 
 returns-2 : tie.Need-returns-2
-unfolding lowest
+unfolding firstApplying
 returns-2 c = told (c .before .before .before .before .before) (rw (size-right (c .before .before), ne-eqb _ _ (c .before .if2 .taken)) (c .plain2 .ensures))
 
 is-within-requires : tie.Need-is-within-requires
@@ -53,7 +53,7 @@ plain-requires-3 : tie.Need-plain-requires-3
 plain-requires-3 c κs = search needs
 
 returns-3 : tie.Need-returns-3
-unfolding lowest
+unfolding firstApplying
 returns-3 c =
     let t = c .before in
     let l = t .before .before in
@@ -66,7 +66,7 @@ at-requires : tie.Need-at-requires
 at-requires c κs = search needs
 
 returns-4 : tie.Need-returns-4
-unfolding lowest
+unfolding firstApplying
 returns-4 c =
     let f = c .before .before in
     let t = f .before in
@@ -74,7 +74,7 @@ returns-4 c =
     told (l .before .before .before .before) (rw (size-right (l .before), eq-eqb _ _ (l .if2 .left), threshold-ok t, ← f .first-over .ensures, lt-ltb _ _ (c .before .if4 .taken)) (c .at .ensures))
 
 returns-5 : tie.Need-returns-5
-unfolding lowest
+unfolding firstApplying
 returns-5 c =
     let f = c .before in
     let t = f .before in

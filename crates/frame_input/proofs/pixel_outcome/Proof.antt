@@ -2,7 +2,7 @@
 use borrow.Author.Needs.{needs}
 use mathlib.Core.Path.{_≡_, sym, _∙_}
 use borrow.Author.Tests.{le-leb, lt-leb}
-use Rattle.refusal.specs.Table.{lowest}
+use Rattle.refusal.specs.Table.{firstApplying}
 use Rattle.refusal.specs.declared.Outcome.the-variants.{Accepted}
 use Rattle.frame_input.specs.Input.{frameRows}
 use Rattle.frame_input.specs.InputLaws.{pixel-refused, pixel-outside, pixel-inside, pixel-told}
@@ -12,7 +12,7 @@ use Rattle.frame_input.proofs.pixel_outcome.Tie as tie
 -- past the frame's own tests
 accepted : (c : tie.After-enum-told2)
     → let a = c .before .before .before .before .args in
-    lowest (frameRows (a .samples .now) (a .width) (a .height) (a .threshold)) ≡ Accepted
+    firstApplying (frameRows (a .samples .now) (a .width) (a .height) (a .threshold)) ≡ Accepted
 accepted c = sym (c .before .before .frame-outcome .ensures .0) ∙ c .enum-told2 .given .1
 
 frame-outcome-requires : tie.Need-frame-outcome-requires

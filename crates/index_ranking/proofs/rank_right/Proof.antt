@@ -6,7 +6,7 @@ use lib.ListN.{length}
 use mir.Syntax.{w64}
 use mir.ValLaws.{toZ-ofZ}
 use Rattle.refusal.specs.declared.Outcome.the-variants.{Accepted}
-use Rattle.refusal.specs.Table.{lowest}
+use Rattle.refusal.specs.Table.{firstApplying}
 use Rattle.vectors.specs.Triples.{triples}
 use Rattle.direction.specs.ListLaws.{directionsIn, Directions}
 use Rattle.ranking.specs.Refusals.{rowsBeside}
@@ -31,7 +31,7 @@ right s = is-index (s .args .stars .now) (s .args .floor) (s .args .index .now) 
 abbrev start : tie.After-enum-told → tie.Start
 start t = t .before .before .before .before .before
 
-accepted : (t : tie.After-enum-told) → let a = start t .args in lowest (rowsBeside (a .directions .now) (triples (a .stars .now)) (a .tolerance) (length (a .room .now))) ≡ Accepted
+accepted : (t : tie.After-enum-told) → let a = start t .args in firstApplying (rowsBeside (a .directions .now) (triples (a .stars .now)) (a .tolerance) (length (a .room .now))) ≡ Accepted
 accepted t = sym (t .before .before .beside .ensures) ∙ t .enum-told .given .1
 
 sound : (t : tie.After-enum-told) → let a = start t .args in

@@ -6,7 +6,7 @@ use lib.ListN.{length}
 use mir.Syntax.{w64}
 use mir.ValLaws.{toZ-ofZ}
 use Rattle.refusal.specs.declared.Outcome.the-variants.{Accepted}
-use Rattle.refusal.specs.Table.{lowest, otherwise}
+use Rattle.refusal.specs.Table.{firstApplying, otherwise}
 use Rattle.frame.specs.declared.Report.{Report}
 use Rattle.frame.specs.declared.Listing.{Listing}
 use Rattle.catalogue.specs.Stars.{starsOf}
@@ -34,17 +34,17 @@ report-is : (o : tie.After-outcome) → o .before .before .before .list .result 
 report-is o = ap (λ (l : Listing). l .report) (listing-is o)
 
 -- the stars' own outcome, by the floor as it was handed in
-stars-is : (o : tie.After-outcome) → let c = whole o in o .before .stars-outcome .result ≡ lowest (starsRows (c .chain .catalogue) (c .index) (c .floor))
+stars-is : (o : tie.After-outcome) → let c = whole o in o .before .stars-outcome .result ≡ firstApplying (starsRows (c .chain .catalogue) (c .index) (c .floor))
 stars-is o =
     let s = start o in
-    o .before .stars-outcome .ensures ∙ ap (λ (f : ℤ). lowest (starsRows (s .args .catalogue .now) (s .args .index .now) f)) (toZ-ofZ w64 (s .args .floor) (s .fits .floor))
+    o .before .stars-outcome .ensures ∙ ap (λ (f : ℤ). firstApplying (starsRows (s .args .catalogue .now) (s .args .index .now) f)) (toZ-ofZ w64 (s .args .floor) (s .fits .floor))
 
 -- the code's outcome is that of the rows
-outcome-is : (o : tie.After-outcome) → o .outcome .result ≡ lowest (refusalsOf (whole o))
+outcome-is : (o : tie.After-outcome) → o .outcome .result ≡ firstApplying (refusalsOf (whole o))
 outcome-is o =
     let c = whole o in
     o .outcome .ensures .0
-    ∙ (λ i. otherwise (listing-is o i .outcome) (otherwise (lowest (settingsRows (c .chain .settings))) (otherwise (stars-is o i) (lowest (demandRows (c .chain .settings) (length (c .chain .room)) (listing-is o i .report .count))))))
+    ∙ (λ i. otherwise (listing-is o i .outcome) (otherwise (firstApplying (settingsRows (c .chain .settings))) (otherwise (stars-is o i) (firstApplying (demandRows (c .chain .settings) (length (c .chain .room)) (listing-is o i .report .count))))))
     ∙ sym (refusals-joined c)
 
 -- ---- the needs
@@ -67,7 +67,7 @@ refused-requires c κs = search needs
 enum-told : tie.Need-enum-told
 enum-told c = search needs
 
-accepted : (c : tie.After-enum-told) → lowest (refusalsOf (whole (c .before .before))) ≡ Accepted
+accepted : (c : tie.After-enum-told) → firstApplying (refusalsOf (whole (c .before .before))) ≡ Accepted
 accepted c = sym (outcome-is (c .before .before)) ∙ c .enum-told .given .1
 
 located-requires : tie.Need-located-requires

@@ -1,4 +1,4 @@
--- `ranking::rank` meets its contract: the lowest refusal, or the ranking of the decoded stars. Assumes nothing.
+-- `ranking::rank` meets its contract: the first refusal, or the ranking of the decoded stars. Assumes nothing.
 use borrow.Author.Needs.{needs}
 use mathlib.Core.Path.{_≡_, sym, ap, subst, _∙_}
 use mathlib.Core.List.{List, _++_}
@@ -10,7 +10,7 @@ use lib.Seq.{length-take-le}
 use Rattle.refusal.specs.declared.Outcome.{Outcome}
 use Rattle.refusal.specs.declared.Outcome.the-variants.{Accepted}
 use Rattle.refusal.specs.Answer.{answerOf}
-use Rattle.refusal.specs.Table.{lowest}
+use Rattle.refusal.specs.Table.{firstApplying}
 use Rattle.catalogue.specs.Format.{recordsIn}
 use Rattle.catalogue.specs.Stars.{starsOf}
 use Rattle.catalogue.specs.Valid.{Valid}
@@ -27,7 +27,7 @@ start c = c .before .before .before .before .before
 
 accepted : (c : tie.After-enum-told) → let a = start c .args in rankOutcomeOf (a .directions .now) (a .catalogue .now) (a .tolerance) (a .room .now) ≡ Accepted
 unfolding rankOutcomeOf
-accepted c = sym (c .before .before .lowest .ensures) ∙ c .enum-told .given .1
+accepted c = sym (c .before .before .first-refusal .ensures) ∙ c .enum-told .given .1
 
 sound : (c : tie.After-enum-told) → let a = start c .args in Sound (a .directions .now) (a .catalogue .now) (a .tolerance) (length (a .room .now))
 unfolding rankOutcomeOf
@@ -40,8 +40,8 @@ in-terms : {o : Outcome} (s : tie.Start)
     → answerOf o ≡ answerFor (a .directions .now) (a .catalogue .now) (a .tolerance) (a .room .now)
 in-terms s e = let a = s .args in ap (λ (o : Outcome). answerOf o) e ∙ answers (a .directions .now) (a .catalogue .now) (a .tolerance) (a .room .now)
 
-lowest-requires : tie.Need-lowest-requires
-lowest-requires c κs = search needs
+first-refusal-requires : tie.Need-first-refusal-requires
+first-refusal-requires c κs = search needs
 
 enum-known-outcome : tie.Need-enum-known-outcome
 enum-known-outcome c = search needs
@@ -86,7 +86,7 @@ unfolding rankOutcomeOf
 returns c =
     let s = c .before .before .before .before .before .before in
     let a = s .args in
-    let e = sym (c .before .before .before .lowest .ensures) ∙ c .before .outcome .given .1 in
+    let e = sym (c .before .before .before .first-refusal .ensures) ∙ c .before .outcome .given .1 in
     (sym e, (sym (room-kept (a .directions .now) (a .catalogue .now) (a .tolerance) (a .room .now) _ e), in-terms s (sym e)))
 
 same-length : tie.Need-same-length
@@ -112,7 +112,7 @@ pub rank-spec : {M : Type 1} → statement M
 rank-spec =
     tie.close
     (tie.spec
-    lowest-requires
+    first-refusal-requires
     enum-known-outcome
     enum-told
     stars-requires

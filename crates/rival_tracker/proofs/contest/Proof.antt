@@ -1,10 +1,10 @@
--- `rival_tracker::contest` meets its contract: the lowest of 1 to 12, or what the steps behind the list come to. Assumes nothing.
+-- `rival_tracker::contest` meets its contract: the first of 1 to 12, or what the steps behind the list come to. Assumes nothing.
 use borrow.Author.Needs.{needs}
 use mathlib.Core.Path.{_≡_, sym, ap, _∙_, subst}
 use lib.ListN.{length}
 use Rattle.refusal.specs.declared.Refusal.{Refusal}
 use Rattle.refusal.specs.declared.Outcome.the-variants.{Accepted, Refused}
-use Rattle.refusal.specs.Table.{lowest, otherwise, answered}
+use Rattle.refusal.specs.Table.{firstApplying, otherwise, answered}
 use Rattle.frame.specs.declared.Report.{Report}
 use Rattle.frame.specs.declared.Listing.{Listing}
 use Rattle.tracker.specs.Chain.{Call, call, listed, settingsRows, demandRows, refusalsOf, rankedRoom, roomAfter}
@@ -30,30 +30,30 @@ listing-is o = o .before .before .before .list .ensures
 report-is : (o : tie.After-outcome) → o .before .before .before .list .result .report ≡ listed (whole o) .report
 report-is o = ap (λ (l : Listing). l .report) (listing-is o)
 
--- the code's outcome is the lowest number of the table
-outcome-is : (o : tie.After-outcome) → o .outcome .result ≡ lowest (refusalsOf (whole o))
+-- the code's outcome is the firstApplying number of the table
+outcome-is : (o : tie.After-outcome) → o .outcome .result ≡ firstApplying (refusalsOf (whole o))
 outcome-is o =
     let c = whole o in
     o .outcome .ensures .0
-    ∙ (λ i. otherwise (listing-is o i .outcome) (otherwise (lowest (settingsRows (c .settings))) (otherwise (o .before .catalogue-outcome .ensures .0 i) (lowest (demandRows (c .settings) (length (c .room)) (listing-is o i .report .count))))))
+    ∙ (λ i. otherwise (listing-is o i .outcome) (otherwise (firstApplying (settingsRows (c .settings))) (otherwise (o .before .catalogue-outcome .ensures .0 i) (firstApplying (demandRows (c .settings) (length (c .room)) (listing-is o i .report .count))))))
     ∙ sym (refusals-joined c)
 
 -- ---- what the definitions come to
 
 module _ (c : Call) where
-  refused-contest : (q : Refusal) → lowest (refusalsOf c) ≡ Refused q → contestedOf c ≡ refusedWith q
+  refused-contest : (q : Refusal) → firstApplying (refusalsOf c) ≡ Refused q → contestedOf c ≡ refusedWith q
   unfolding contestedOf
   refused-contest q e = ap (answered refusedWith (ourContest (listed c .report) (c .catalogue) (c .settings))) e
 
-  refused-room : (q : Refusal) → lowest (refusalsOf c) ≡ Refused q → roomAfter c ≡ c .room
+  refused-room : (q : Refusal) → firstApplying (refusalsOf c) ≡ Refused q → roomAfter c ≡ c .room
   unfolding roomAfter
   refused-room q e = ap (answered (λ (r : Refusal). c .room) (rankedRoom (listed c .report) (c .catalogue) (c .settings) (c .room))) e
 
-  accepted-contest : lowest (refusalsOf c) ≡ Accepted → contestedOf c ≡ ourContest (listed c .report) (c .catalogue) (c .settings)
+  accepted-contest : firstApplying (refusalsOf c) ≡ Accepted → contestedOf c ≡ ourContest (listed c .report) (c .catalogue) (c .settings)
   unfolding contestedOf
   accepted-contest e = ap (answered refusedWith (ourContest (listed c .report) (c .catalogue) (c .settings))) e
 
-  accepted-room : lowest (refusalsOf c) ≡ Accepted → roomAfter c ≡ rankedRoom (listed c .report) (c .catalogue) (c .settings) (c .room)
+  accepted-room : firstApplying (refusalsOf c) ≡ Accepted → roomAfter c ≡ rankedRoom (listed c .report) (c .catalogue) (c .settings) (c .room)
   unfolding roomAfter
   accepted-room e = ap (answered (λ (r : Refusal). c .room) (rankedRoom (listed c .report) (c .catalogue) (c .settings) (c .room))) e
 
@@ -74,7 +74,7 @@ enum-known-outcome c = search needs
 enum-told : tie.Need-enum-told
 enum-told c = search needs
 
-accepted : (c : tie.After-enum-told) → lowest (refusalsOf (whole (c .before .before))) ≡ Accepted
+accepted : (c : tie.After-enum-told) → firstApplying (refusalsOf (whole (c .before .before))) ≡ Accepted
 accepted c = sym (outcome-is (c .before .before)) ∙ c .enum-told .given .1
 
 located-requires : tie.Need-located-requires

@@ -1,4 +1,4 @@
--- `search::search` meets its contract: the lowest refusal, or the first fit over the decoded stars. Assumes nothing.
+-- `search::search` meets its contract: the first refusal, or the first fit over the decoded stars. Assumes nothing.
 use borrow.Author.Needs.{needs}
 use mathlib.Core.Path.{_≡_, sym, ap, subst, _∙_}
 use mathlib.Core.List.{List}
@@ -8,7 +8,7 @@ use lib.IntN.{ℤ}
 use lib.ListN.{length, take}
 use lib.Seq.{length-take-le}
 use Rattle.refusal.specs.declared.Outcome.the-variants.{Accepted}
-use Rattle.refusal.specs.Table.{lowest}
+use Rattle.refusal.specs.Table.{firstApplying}
 use Rattle.catalogue.specs.Format.{recordsIn}
 use Rattle.catalogue.specs.Stars.{starsOf}
 use Rattle.catalogue.specs.Valid.{Valid}
@@ -26,14 +26,14 @@ use Rattle.search.proofs.search.Tie as tie
 abbrev start : tie.After-enum-told → tie.Start
 start c = c .before .before .before .before .before
 
-accepted : (c : tie.After-enum-told) → lowest (refusalsOf (start c .args .directions .now) (start c .args .catalogue .now) (start c .args .needed) (start c .args .tolerance) (start c .args .ranking .now)) ≡ Accepted
-accepted c = sym (c .before .before .lowest .ensures) ∙ c .enum-told .given .1
+accepted : (c : tie.After-enum-told) → firstApplying (refusalsOf (start c .args .directions .now) (start c .args .catalogue .now) (start c .args .needed) (start c .args .tolerance) (start c .args .ranking .now)) ≡ Accepted
+accepted c = sym (c .before .before .first-refusal .ensures) ∙ c .enum-told .given .1
 
 valid : (c : tie.After-enum-told) → Valid (start c .args .catalogue .now)
 valid c = answers.valid _ _ _ _ _ (accepted c)
 
-lowest-requires : tie.Need-lowest-requires
-lowest-requires c κs = search needs
+first-refusal-requires : tie.Need-first-refusal-requires
+first-refusal-requires c κs = search needs
 
 enum-known-outcome : tie.Need-enum-known-outcome
 enum-known-outcome c = search needs
@@ -74,7 +74,7 @@ both : (directions : List ℤ) (bytes : List ℕ) (needed tolerance : ℕ) (ws :
 both directions bytes needed tolerance ws r h = (h, answers.identified directions bytes needed tolerance ws r h)
 
 returns : tie.Need-returns
-returns c = both _ _ _ _ _ _ (answers.refused-identified _ _ _ _ _ _ (sym (c .before .before .before .lowest .ensures) ∙ c .before .outcome .given .1))
+returns c = both _ _ _ _ _ _ (answers.refused-identified _ _ _ _ _ _ (sym (c .before .before .before .first-refusal .ensures) ∙ c .before .outcome .given .1))
 
 returns-2 : tie.Need-returns-2
 returns-2 c =
@@ -90,7 +90,7 @@ pub search-spec : {M : Type 1} → statement M
 search-spec =
     tie.close
     (tie.spec
-    lowest-requires
+    first-refusal-requires
     enum-known-outcome
     enum-told
     stars-requires

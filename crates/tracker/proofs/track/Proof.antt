@@ -1,4 +1,4 @@
--- `tracker::track` meets its contract: the lowest of 1 to 12, or what the steps behind the list come to. Assumes nothing.
+-- `tracker::track` meets its contract: the first of 1 to 12, or what the steps behind the list come to. Assumes nothing.
 use borrow.Author.Needs.{needs}
 use mathlib.Core.Path.{_≡_, refl, sym, ap, _∙_, subst}
 use mathlib.Core.List.{List}
@@ -8,7 +8,7 @@ use Rattle.counting.specs.Contradiction.{contradiction}
 use Rattle.refusal.specs.declared.Refusal.{Refusal}
 use Rattle.refusal.specs.declared.Outcome.{Outcome}
 use Rattle.refusal.specs.declared.Outcome.the-variants.{Accepted, Refused}
-use Rattle.refusal.specs.Table.{lowest, otherwise, answered}
+use Rattle.refusal.specs.Table.{firstApplying, otherwise, answered}
 use Rattle.frame.specs.declared.Report.{Report}
 use Rattle.frame.specs.declared.Listing.{Listing}
 use Rattle.catalogue.specs.Check as catalogue
@@ -34,30 +34,30 @@ listing-is o = o .before .before .before .list .ensures
 report-is : (o : tie.After-outcome) → o .before .before .before .list .result .report ≡ listed (whole o) .report
 report-is o = ap (λ (l : Listing). l .report) (listing-is o)
 
--- the code's outcome is the lowest number of the table
-outcome-is : (o : tie.After-outcome) → o .outcome .result ≡ lowest (refusalsOf (whole o))
+-- the code's outcome is the firstApplying number of the table
+outcome-is : (o : tie.After-outcome) → o .outcome .result ≡ firstApplying (refusalsOf (whole o))
 outcome-is o =
     let c = whole o in
     o .outcome .ensures .0
-    ∙ (λ i. otherwise (listing-is o i .outcome) (otherwise (lowest (settingsRows (c .settings))) (otherwise (o .before .catalogue-outcome .ensures .0 i) (lowest (demandRows (c .settings) (length (c .room)) (listing-is o i .report .count))))))
+    ∙ (λ i. otherwise (listing-is o i .outcome) (otherwise (firstApplying (settingsRows (c .settings))) (otherwise (o .before .catalogue-outcome .ensures .0 i) (firstApplying (demandRows (c .settings) (length (c .room)) (listing-is o i .report .count))))))
     ∙ sym (refusals-joined c)
 
 -- ---- what the definitions come to
 
 module _ (c : Call) where
-  refused-tracked : (q : Refusal) → lowest (refusalsOf c) ≡ Refused q → trackedOf c ≡ refusedWith q
+  refused-tracked : (q : Refusal) → firstApplying (refusalsOf c) ≡ Refused q → trackedOf c ≡ refusedWith q
   unfolding trackedOf
   refused-tracked q e = ap (answered refusedWith (locatedOf (listed c .report) (c .catalogue) (c .settings))) e
 
-  refused-room : (q : Refusal) → lowest (refusalsOf c) ≡ Refused q → roomAfter c ≡ c .room
+  refused-room : (q : Refusal) → firstApplying (refusalsOf c) ≡ Refused q → roomAfter c ≡ c .room
   unfolding roomAfter
   refused-room q e = ap (answered (λ (r : Refusal). c .room) (rankedRoom (listed c .report) (c .catalogue) (c .settings) (c .room))) e
 
-  accepted-tracked : lowest (refusalsOf c) ≡ Accepted → trackedOf c ≡ locatedOf (listed c .report) (c .catalogue) (c .settings)
+  accepted-tracked : firstApplying (refusalsOf c) ≡ Accepted → trackedOf c ≡ locatedOf (listed c .report) (c .catalogue) (c .settings)
   unfolding trackedOf
   accepted-tracked e = ap (answered refusedWith (locatedOf (listed c .report) (c .catalogue) (c .settings))) e
 
-  accepted-room : lowest (refusalsOf c) ≡ Accepted → roomAfter c ≡ rankedRoom (listed c .report) (c .catalogue) (c .settings) (c .room)
+  accepted-room : firstApplying (refusalsOf c) ≡ Accepted → roomAfter c ≡ rankedRoom (listed c .report) (c .catalogue) (c .settings) (c .room)
   unfolding roomAfter
   accepted-room e = ap (answered (λ (r : Refusal). c .room) (rankedRoom (listed c .report) (c .catalogue) (c .settings) (c .room))) e
 
@@ -66,7 +66,7 @@ numberIn Accepted = 0
 numberIn (Refused r) = r .number
 
 -- a call that is refused before anything is written names nothing, and is not refused with 13
-nothing-named : (c : Call) (q : Refusal) (t : Tracked) → lowest (refusalsOf c) ≡ Refused q → t ≡ refusedWith q → Names (listed c .report) (c .catalogue) (c .settings) t
+nothing-named : (c : Call) (q : Refusal) (t : Tracked) → firstApplying (refusalsOf c) ≡ Refused q → t ≡ refusedWith q → Names (listed c .report) (c .catalogue) (c .settings) t
 unfolding numberIn
 nothing-named c q t e h =
     let o : t .outcome ≡ Refused q = ap (λ (x : Tracked). x .outcome) h in
@@ -95,7 +95,7 @@ refused-requires c κs = search needs
 enum-told : tie.Need-enum-told
 enum-told c = search needs
 
-accepted : (c : tie.After-enum-told) → lowest (refusalsOf (whole (c .before .before))) ≡ Accepted
+accepted : (c : tie.After-enum-told) → firstApplying (refusalsOf (whole (c .before .before))) ≡ Accepted
 accepted c = sym (outcome-is (c .before .before)) ∙ c .enum-told .given .1
 
 located-requires : tie.Need-located-requires

@@ -5,7 +5,7 @@ use mathlib.Core.Path.{_≡_, sym, _∙_}
 use Rattle.refusal.specs.Numbers.{directions, close}
 use Rattle.refusal.specs.declared.Outcome.{Outcome}
 use Rattle.refusal.specs.declared.Outcome.the-variants.{Accepted}
-use Rattle.refusal.specs.Table.{refusalOf, lowest}
+use Rattle.refusal.specs.Table.{refusalOf, firstApplying}
 use Rattle.attitude.specs.Attitude.{beyond, tooClose, refusalsOf}
 use Rattle.attitude.specs.Laws.{InRange, pair-in-range}
 use Rattle.attitude.proofs.refusals.tested.Statement.{statement}
@@ -15,7 +15,7 @@ use Rattle.attitude.proofs.refusals.tested.Tie as tie
 
 module _ (s : tie.Start) where
   abbrev first : Outcome
-  first = lowest (refusalsOf (s .args .v1) (s .args .v2) (s .args .w1) (s .args .w2))
+  first = firstApplying (refusalsOf (s .args .v1) (s .args .v2) (s .args .w1) (s .args .w2))
 
   abbrev camera-out : Bool
   camera-out = beyond (s .args .v1) || beyond (s .args .v2)
@@ -30,23 +30,23 @@ module _ (s : tie.Start) where
   sky-close = tooClose (s .args .w1) (s .args .w2)
 
   by-camera-out : camera-out ≡ true → refusalOf directions 0 ≡ first
-  unfolding lowest
+  unfolding firstApplying
   by-camera-out h = rw h
 
   by-sky-out : camera-out ≡ false → sky-out ≡ true → refusalOf directions 0 ≡ first
-  unfolding lowest
+  unfolding firstApplying
   by-sky-out h i = rw (h, i)
 
   by-camera-close : camera-out ≡ false → sky-out ≡ false → camera-close ≡ true → refusalOf close 0 ≡ first
-  unfolding lowest
+  unfolding firstApplying
   by-camera-close h i j = rw (h, i, j)
 
   by-sky-close : camera-out ≡ false → sky-out ≡ false → camera-close ≡ false → sky-close ≡ true → refusalOf close 0 ≡ first
-  unfolding lowest
+  unfolding firstApplying
   by-sky-close h i j k = rw (h, i, j, k)
 
   by-none : camera-out ≡ false → sky-out ≡ false → camera-close ≡ false → sky-close ≡ false → Accepted ≡ first
-  unfolding lowest
+  unfolding firstApplying
   by-none h i j k = rw (h, i, j, k)
 
 -- ---- what each test has left

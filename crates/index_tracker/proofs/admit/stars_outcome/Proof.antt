@@ -6,7 +6,7 @@ use lib.ListN.{length, take}
 use lib.Seq.{length-take-le}
 use mir.Syntax.{w64}
 use mir.ValLaws.{toZ-ofZ}
-use Rattle.refusal.specs.Table.{lowest}
+use Rattle.refusal.specs.Table.{firstApplying}
 use Rattle.catalogue.specs.Format.{recordsIn}
 use Rattle.catalogue.specs.Stars.{starsOf}
 use Rattle.catalogue.specs.Valid.{Valid}
@@ -71,7 +71,7 @@ returns-2 c =
     let x = s .args in
     let f = toZ-ofZ w64 (x .floor) (s .fits .floor) in
     c .index-outcome .ensures
-    ∙ (λ i. lowest (indexRows (lent t i) (x .index .now) (f i)))
+    ∙ (λ i. firstApplying (indexRows (lent t i) (x .index .now) (f i)))
     ∙ sym (stars-joined (x .bytes .now) (x .index .now) (x .floor) (valid-accepted (x .bytes .now) (valid (t .before) .0)))
 
 pub stars-outcome-spec : {M : Type 1} → statement M
