@@ -70,6 +70,6 @@ def _write(folder, known):
     """Keeps the newest counts; a folder that cannot be written only has them counted again."""
     newest = dict(list(known.items())[-ENTRIES:])
     try:
-        write_folder(folder, {NAME: json.dumps(newest, indent=1).encode()}, "solve")
+        write_folder(folder, {NAME: json.dumps(newest, indent=1).encode()}, "solve", force=True)
     except Mistake:
         pass
