@@ -139,7 +139,7 @@ pub fn rank(
 }
 
 // The same with an index that the caller has tested for this catalogue and floor.
-pub fn rank_tested(
+pub fn rank_trusting_index(
     directions: &[i32],
     catalogue: &[u8],
     index: &[u8],

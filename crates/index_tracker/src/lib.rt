@@ -33,7 +33,7 @@ fn located(
     let tolerance = settings.tolerance;
     let numbers = sight::directions_of(stars, count, settings);
     let end = 3 * count;
-    index_ranking::rank_tested(&numbers[..end], bytes, index, floor, tolerance, room);
+    index_ranking::rank_trusting_index(&numbers[..end], bytes, index, floor, tolerance, room);
     locate::identified(report, &numbers[..end], bytes, settings, room)
 }
 

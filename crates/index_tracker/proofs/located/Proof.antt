@@ -35,16 +35,16 @@ front d = ap (take (3 * start d .args .report .count)) (d .directions-of .ensure
 part : (d : tie.After-directions-of) → 3 * start d .args .report .count ≡ length (take (3 * start d .args .report .count) (d .directions-of .result))
 part d = sym (length-take-le _ _ (omega (arith, array d, start d .pre .0 .few)))
 
-abbrev sighted : tie.After-rank-tested → tie.After-directions-of
+abbrev sighted : tie.After-rank-trusting-index → tie.After-directions-of
 sighted k = k .before .before .before
 
 -- the room after the ranking
-room-is : (k : tie.After-rank-tested) → let s = start (sighted k) in k .rank-tested .last .1 .1 .1 .1 .1 .0 ≡ rankedRoom (s .args .report) (s .args .bytes .now) (s .args .settings) (s .args .room .now)
+room-is : (k : tie.After-rank-trusting-index) → let s = start (sighted k) in k .rank-trusting-index .last .1 .1 .1 .1 .1 .0 ≡ rankedRoom (s .args .report) (s .args .bytes .now) (s .args .settings) (s .args .room .now)
 room-is k =
     let s = start (sighted k) in
     let a = s .args in
     let f = toZ-ofZ w64 (a .floor) (s .fits .floor) in
-    k .rank-tested .ensures .1
+    k .rank-trusting-index .ensures .1
     ∙ (λ i. roomAfter (call (front (sighted k) i) (a .bytes .now) (a .index .now) (f i) (a .settings .tolerance) (a .room .now)))
     ∙ right-room (call (sightsOf (a .report) (a .bytes .now) (a .settings)) (a .bytes .now) (a .index .now) (a .floor) (a .settings .tolerance) (a .room .now)) (s .pre .1)
     ∙ laws.room-ranked _ _ _ _ (s .pre .0)
@@ -60,11 +60,11 @@ mul-end c = omega (arith, start c .pre .0 .few)
 array-share-prefix-numbers : tie.Need-array-share-prefix-numbers
 array-share-prefix-numbers c = omega (arith, array c, start c .pre .0 .few)
 
-slice-aggregate-rank-tested : tie.Need-slice-aggregate-rank-tested
-slice-aggregate-rank-tested c = part (c .before)
+slice-aggregate-rank-trusting-index : tie.Need-slice-aggregate-rank-trusting-index
+slice-aggregate-rank-trusting-index c = part (c .before)
 
-rank-tested-requires : tie.Need-rank-tested-requires
-rank-tested-requires c κs =
+rank-trusting-index-requires : tie.Need-rank-trusting-index-requires
+rank-trusting-index-requires c κs =
     let s = start (c .before .before) in
     s .pre .1 ∙ ap (indexOf (starsOf (s .args .bytes .now))) (sym (toZ-ofZ w64 (s .args .floor) (s .fits .floor)))
 
@@ -93,8 +93,8 @@ located-spec =
     directions-of-requires
     mul-end
     array-share-prefix-numbers
-    slice-aggregate-rank-tested
-    rank-tested-requires
+    slice-aggregate-rank-trusting-index
+    rank-trusting-index-requires
     array-share-prefix-numbers-2
     slice-aggregate-identified
     identified-requires

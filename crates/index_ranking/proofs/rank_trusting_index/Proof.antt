@@ -1,4 +1,4 @@
--- `index_ranking::rank_tested` meets its contract: the catalogue's refusal, or what its stars give with their own index. Assumes nothing.
+-- `index_ranking::rank_trusting_index` meets its contract: the catalogue's refusal, or what its stars give with their own index. Assumes nothing.
 use mathlib.Core.Path.{_≡_, sym, subst, _∙_}
 use Prim.Native.Nat.{_*_, _≤_}
 use native.Mathlib.Omega.{arith}
@@ -19,8 +19,8 @@ use Rattle.index_ranking.specs.Stars.{outcomeFrom, roomFrom}
 use Rattle.index_ranking.specs.Steps.{joined, refused-room, valid-outcome}
 use Rattle.index_ranking.specs.Laws.{valid-room}
 use borrow.Author.Needs.{needs}
-use Rattle.index_ranking.proofs.rank_tested.Statement.{statement}
-use Rattle.index_ranking.proofs.rank_tested.Tie as tie
+use Rattle.index_ranking.proofs.rank_trusting_index.Statement.{statement}
+use Rattle.index_ranking.proofs.rank_trusting_index.Tie as tie
 
 check-requires : tie.Need-check-requires
 check-requires c κs = search needs
@@ -91,8 +91,8 @@ returns-2 c =
       w .rank-right .ensures .1 ∙ (λ i. roomFrom (x .directions .now) (lent t i) (x .index .now) (f i) (x .tolerance) (x .room .now)) ∙ sym (valid-room (whole s) v),
     )
 
-pub rank-tested-spec : {M : Type 1} → statement M
-rank-tested-spec =
+pub rank-trusting-index-spec : {M : Type 1} → statement M
+rank-trusting-index-spec =
     tie.close
     (tie.spec
     check-requires
