@@ -61,10 +61,16 @@ def test_setup_does_nothing_where_all_is_there(mnemathor):
     assert done.returncode == 0 and done.stdout + done.stderr == b""
 
 
-def test_readme_has_every_subcommand():
-    readme = (ROOT / "README.md").read_text()
-    for name in GROUND:
-        assert f"./mnemathor {name} " in readme, name
+def test_commands_md_has_a_section_for_each_subcommand_and_for_nothing_else():
+    sections = re.findall(r"^### (.*)\n\n    \./mnemathor (.*)$", (ROOT / "docs" / "COMMANDS.md").read_text(), re.MULTILINE)
+    told = [line[2:].split(" | ") for line in (HERE / "help.txt").read_text().splitlines() if line.startswith("= ")]
+    names = ["program" if usage.startswith("[") else usage.split()[0] for usage, _ in told]
+    assert sections == [(f"{name}: {line}", usage) for name, (usage, line) in zip(names, told)]
+    assert (ROOT / "docs" / "COMMANDS.md").read_text().count("\n### ") == len(told)
+
+
+def test_readme_is_short():
+    assert len((ROOT / "README.md").read_bytes()) <= 8192
 
 
 def test_the_commands_of_settings_md_are_commands():
