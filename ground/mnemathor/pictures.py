@@ -49,11 +49,12 @@ def picture(settings, samples, catalogue, pixel=None, dpi=100):
     axes = figure.axes[0]
     _show(axes, samples)
     stars = solution.stars if solution else [_unnamed(number, star) for number, star in enumerate(report.stars)]
-    for star in stars:
-        _ring(axes, star, stars, ring(settings))
-    marks = bright_pixels(samples, settings, report)
-    counts = _mark(axes, marks, stars)
+    marks = _marks(bright_pixels(samples, settings, report), stars)
     confirmation = confirm(settings, samples, catalogue, solution) if solution else None
+    marked = [*stars, *(mark for kind in marks.values() for mark in kind), *(confirmation.stars if solution else [])]
+    for star in stars:
+        _ring(axes, star, marked, ring(settings))
+    counts = _mark(axes, marks)
     if solution:
         counts["catalogue"] = _mark_catalogue(axes, solution, catalogue, settings)
         counts.update(_mark_further(axes, confirmation, ring(settings)))
@@ -160,7 +161,7 @@ def _grid(axes, trial, tolerances, needed, value, colours):
     axes.imshow(values, cmap=colours, vmin=0, vmax=100, origin="lower", aspect="auto")
     for (row, column), share in np.ndenumerate(values):
         cell = cells[needed[row], tolerances[column]]
-        text = "-" if np.isnan(share) else f"{share:.1f}"
+        text = "-" if np.isnan(share) else f"{share:.1f}" if share >= 0.1 else f"{share:.2f}"
         if share == 0 and colours == "Reds":
             bound = 100 * upper_bound(*value(cell))
             text = f"0\n(<{bound:.1f})" if bound >= 0.1 else f"0\n(<{bound:.2f})"
@@ -219,7 +220,7 @@ def _ring(axes, star, others, radius):
 
 
 def _label_place(axes, star, others, radius):
-    """On which side of its ring a label stands: that with the most room to the other stars and to the frame's sides."""
+    """On which side of its ring a label stands: that with the most room to all other marks and to the frame's sides."""
     away = 1.2 * radius
     places = [(away, 0, "left", "center"), (-away, 0, "right", "center"), (0, away, "center", "top"), (0, -away, "center", "bottom")]
     wide, tall = axes.get_xlim()[1], axes.get_ylim()[0]
@@ -233,15 +234,20 @@ def _label_place(axes, star, others, radius):
     return max(places, key=room)
 
 
-def _mark(axes, marks, stars):
-    """Edge and lone pixels, and measured ones that are not among the listed; hands back how many there are of each."""
+def _marks(bright, stars):
+    """Edge and lone pixels, and measured ones that are not among the listed."""
     listed = {(round(star.column * PIXEL), round(star.row * PIXEL)) for star in stars}
-    unlisted = [verdict for verdict in marks["measured"] if (verdict.centroid.x, verdict.centroid.y) not in listed]
-    kinds = {"edge": (marks["edge"], EDGE, "s"), "lone": (marks["lone"], LONE, "x"), "unlisted": (unlisted, UNLISTED, "^")}
-    for verdicts, colour, marker in kinds.values():
-        for verdict in verdicts:
+    unlisted = [verdict for verdict in bright["measured"] if (verdict.centroid.x, verdict.centroid.y) not in listed]
+    return {"edge": bright["edge"], "lone": bright["lone"], "unlisted": unlisted}
+
+
+def _mark(axes, marks):
+    """A mark for each of these by its kind; hands back how many there are of each."""
+    looks = {"edge": (EDGE, "s"), "lone": (LONE, "x"), "unlisted": (UNLISTED, "^")}
+    for kind, (colour, marker) in looks.items():
+        for verdict in marks[kind]:
             axes.plot(verdict.column, verdict.row, marker=marker, color=colour, markersize=8, fillstyle="none", linestyle="")
-    return Counter({kind: len(verdicts) for kind, (verdicts, _, _) in kinds.items()})
+    return Counter({kind: len(verdicts) for kind, verdicts in marks.items()})
 
 
 def _mark_catalogue(axes, solution, catalogue, settings):

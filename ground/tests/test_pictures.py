@@ -6,7 +6,7 @@ from dataclasses import replace
 import matplotlib.colors
 import numpy as np
 import pytest
-from conftest import three_stars
+from conftest import BRIGHT, HERE, three_stars
 from matplotlib.image import imread
 from matplotlib.patches import Circle
 
@@ -14,6 +14,7 @@ from mnemathor import library, pictures, solving
 from mnemathor.attitude import Pointing
 from mnemathor.simulation import Weather, simulate
 
+EXAMPLE, CAMERA = HERE / "data" / "example.fits", HERE / "data" / "camera.toml"
 WEATHER = Weather(hot=4, false=2, jitter=0.03)
 
 
@@ -78,6 +79,20 @@ def test_the_drawing_has_every_mark(settings, catalogue, orion):
     assert lone == {(verdict.column, verdict.row) for verdict in marks["lone"]} and len(lone) == report.lone
     unlisted = [line for line in axes.lines if line.get_marker() == "^"]
     assert len(unlisted) == report.measured - len(report.stars)
+
+
+def test_no_label_lies_on_another_ring(run, tmp_path):
+    """README's picture, whose brightest star has further ones close by."""
+    night = tmp_path / "night"
+    for words in (("frame", EXAMPLE, night), ("catalogue", BRIGHT, night, "--brightest", 512, "--apart", 1), ("settings", CAMERA, night)):
+        assert run(*words)[0] == 0
+    figure = pictures.picture(*solving.read_folder(night))
+    figure.draw_without_rendering()
+    axes = figure.axes[0]
+    rings = [patch.get_window_extent() for patch in axes.patches if isinstance(patch, Circle)]
+    assert len(rings) == 14 and len(axes.texts) == 8
+    for text in axes.texts:
+        assert not any(text.get_window_extent().overlaps(ring) for ring in rings), text
 
 
 def test_catalogue_stars_stand_where_the_matrix_puts_them(settings, catalogue, orion):
