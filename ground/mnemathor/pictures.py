@@ -161,7 +161,7 @@ def _grid(axes, trial, tolerances, needed, value, colours):
     axes.imshow(values, cmap=colours, vmin=0, vmax=100, origin="lower", aspect="auto")
     for (row, column), share in np.ndenumerate(values):
         cell = cells[needed[row], tolerances[column]]
-        text = "-" if np.isnan(share) else f"{share:.1f}" if share >= 0.1 else f"{share:.2f}"
+        text = "-" if np.isnan(share) else f"{share:.2f}" if 0 < share < 0.1 else f"{share:.1f}"
         if share == 0 and colours == "Reds":
             bound = 100 * upper_bound(*value(cell))
             text = f"0\n(<{bound:.1f})" if bound >= 0.1 else f"0\n(<{bound:.2f})"

@@ -10,7 +10,7 @@ from conftest import BRIGHT, HERE, three_stars
 from matplotlib.image import imread
 from matplotlib.patches import Circle
 
-from mnemathor import library, pictures, solving
+from mnemathor import alarms, library, pictures, solving, trials
 from mnemathor.attitude import Pointing
 from mnemathor.simulation import Weather, simulate
 
@@ -174,6 +174,14 @@ def test_the_stretch_goes_by_sky_and_noise(settings, catalogue, orion):
 def test_the_mirror_is_told_on_the_picture(run, folder, tmp_path):
     assert run("simulate", folder, "--seed", 2, "--least", 7, "--mirror")[0] == 0
     assert "is the readout mirrored?" in run("picture", folder, tmp_path / "out.png")[1].replace("\n", " ")
+
+
+def test_a_rare_false_alarm_is_no_zero_in_the_grid(settings):
+    cells = tuple(trials.Cell(10**14, needed, 100, accepted, 0, 0, {}, None, None, None, None) for needed, accepted in ((4, 80), (5, 0)))
+    counted = alarms.Alarms(tuple(alarms.Cell(10**14, needed, 3000, seen, 0, {}) for needed, seen in ((4, 1), (5, 0))), 3000, 3000, 0, "random", False)
+    figure = pictures.trial_picture(trials.Trial(cells, 100, 0, 1.0, 100, counted), settings)
+    told = [[text.get_text() for text in axes.texts] for axes in figure.axes]
+    assert told == [["80.0", "0.0"], ["0\n(<3.7)", "-"], ["0\n(<3.7)", "-"], ["0.03", "0\n(<0.10)"]]
 
 
 def test_the_ending_says_which_kind(run, folder, tmp_path):
