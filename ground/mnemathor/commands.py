@@ -5,7 +5,7 @@ import json
 import os
 import re
 import sys
-from dataclasses import replace
+from dataclasses import fields, replace
 from pathlib import Path
 
 from . import configuration, frames, stars
@@ -296,7 +296,7 @@ def _add_weather(words, **usual):
     words.add_argument("--mirror", action="store_true", help="columns the other way round, as by a mirrored readout")
     words.add_argument("--faintest", type=number(-100, 100), metavar="MAG", help="a star of this magnitude reaches twice the threshold; else the catalogue's faintest")
     words.add_argument("--least", type=whole(0, 512), default=plain.least, metavar="N", help="draw attitudes anew that have fewer catalogue stars in the frame")
-    words.add_argument("--around", type=number(-360, 360), nargs=2, metavar=("RA", "DEC"), help="the camera points near this place, degrees; else anywhere that has catalogue stars")
+    words.add_argument("--around", type=number(-360, 360), nargs=2, metavar=("RA", "DEC"), help="point near this place, degrees; else anywhere that has stars")
     words.add_argument("--within", type=number(0, 180), metavar="DEG", help="how near, with --around")
 
 
@@ -312,7 +312,7 @@ def _weather(words):
     from .simulation import Weather
 
     _check_around(words)
-    return Weather(*(getattr(words, name) for name in ("spread", "background", "noise", "hot", "false", "jitter", "mirror", "faintest", "least", "around", "within")))
+    return Weather(**{field.name: getattr(words, field.name) for field in fields(Weather)})
 
 
 def _add_simulate(subcommands):
@@ -367,7 +367,7 @@ def _add_trial(subcommands):
     words.add_argument("--tolerances", type=whole(0, 2**64 - 1), nargs="+", metavar="T", help="else 1/16, 1/8, 1/4, 1/2 and 1 pixel at the shorter side's separation; with --empty and --strange the folder's")
     words.add_argument("--needed", type=whole(), nargs="+", default=[3, 4, 5, 6], metavar="N", help="needed counts")
     words.add_argument("--off", type=number(0, 10000), default=1.0, metavar="PIXELS", help="an axis farther off than this is a wrong pointing")
-    words.add_argument("--sky", metavar="STARS", help="the frames have every star of this list, from which the catalogue was made: those too that it leaves out")
+    words.add_argument("--sky", metavar="STARS", help="frames with every star of the list that the catalogue was made from, left out or not")
     words.add_argument("--rivals", action="store_true", help="also count the accepted frames that have no rival, and wrong names among them")
     _add_alarms(words)
     words.add_argument("--processes", type=whole(1, 1024), metavar="N", help="else as many as there are processors")

@@ -178,7 +178,8 @@ def test_the_mirror_is_told_on_the_picture(run, folder, tmp_path):
 
 def test_a_rare_false_alarm_is_no_zero_in_the_grid(settings):
     cells = tuple(trials.Cell(10**14, needed, 100, accepted, 0, 0, {}, None, None, None, None) for needed, accepted in ((4, 80), (5, 0)))
-    counted = alarms.Alarms(tuple(alarms.Cell(10**14, needed, 3000, seen, 0, {}) for needed, seen in ((4, 1), (5, 0))), 3000, 3000, 0, "random", False)
+    counted = tuple(alarms.Cell(10**14, needed, 3000, seen, 0, {}) for needed, seen in ((4, 1), (5, 0)))
+    counted = alarms.Alarms(counted, 3000, 3000, 0, "random", False)
     figure = pictures.trial_picture(trials.Trial(cells, 100, 0, 1.0, 100, counted), settings)
     told = [[text.get_text() for text in axes.texts] for axes in figure.axes]
     assert told == [["80.0", "0.0"], ["0\n(<3.7)", "-"], ["0\n(<3.7)", "-"], ["0.03", "0\n(<0.10)"]]
