@@ -31,6 +31,8 @@ from .trials import shorter_side
 NAMED, UNNAMED, EDGE, LONE, UNLISTED, CATALOGUE, ASKED = "#39d353", "#ff9f1c", "#ffe14d", "#ff4d6d", "#7aa2ff", "#27d3f5", "#ff5cf4"
 # A ring is this part of the frame's width, and no smaller than a star's window.
 RING, WINDOW = 1 / 40, 3.5
+# A letter of a label, as a part of a ring's radius.
+LETTER = 0.4
 # Further stars of the catalogue, which the answer did not use: one that was found, and one that was missed; their ring is this part of a named star's.
 FOUND, MISSED, SMALL = "#b6f5a2", "#ff8a8a", 0.6
 # The legend's room, in inches.
@@ -214,21 +216,21 @@ def _ring(axes, star, others, radius):
     named = star.identity is not None
     colour = NAMED if named else UNNAMED
     axes.add_patch(Circle((star.column, star.row), radius, fill=False, edgecolor=colour, linewidth=1.4, linestyle="-" if named else "--"))
-    across, down, side, height = _label_place(axes, star, others, radius)
     text = f"{star.number}: {star.identity if named else '-'}"
+    across, down, side, height = _label_place(axes, star, others, radius, LETTER * radius * len(text))
     axes.text(star.column + across, star.row + down, text, color=colour, fontsize=7.5, ha=side, va=height, clip_on=True)
 
 
-def _label_place(axes, star, others, radius):
+def _label_place(axes, star, others, radius, length):
     """On which side of its ring a label stands: that with the most room to all other marks and to the frame's sides."""
     away = 1.2 * radius
     places = [(away, 0, "left", "center"), (-away, 0, "right", "center"), (0, away, "center", "top"), (0, -away, "center", "bottom")]
     wide, tall = axes.get_xlim()[1], axes.get_ylim()[0]
 
     def room(place):
-        column, row = star.column + 2.5 * place[0], star.row + 1.5 * place[1]
+        column, row = star.column + place[0] + np.sign(place[0]) * length / 2, star.row + 1.5 * place[1]
         nearest = min((np.hypot(other.column - column, other.row - row) for other in others if other is not star), default=np.inf)
-        inside = 0.8 * radius < column < wide - 0.8 * radius and 0.4 * radius < row < tall - 0.4 * radius
+        inside = length / 2 < column < wide - length / 2 and 0.4 * radius < row < tall - 0.4 * radius
         return (inside, min(nearest, 3 * radius))
 
     return max(places, key=room)

@@ -95,6 +95,21 @@ def test_no_label_lies_on_another_ring(run, tmp_path):
         assert not any(text.get_window_extent().overlaps(ring) for ring in rings), text
 
 
+def test_labels_are_whole(settings, catalogue):
+    """Identities of ten digits on stars near the sides."""
+    catalogue = catalogue.copy()
+    catalogue["identity"] += 4 * 10**9
+    for number in range(4):
+        made = simulate(settings, catalogue, (7, number), Weather(least=8))
+        figure = pictures.picture(settings, made.samples, catalogue)
+        figure.draw_without_rendering()
+        axes = figure.axes[0]
+        sides = axes.get_window_extent()
+        for text in axes.texts:
+            box = text.get_window_extent()
+            assert sides.x0 <= box.x0 and box.x1 <= sides.x1, (number, text)
+
+
 def test_catalogue_stars_stand_where_the_matrix_puts_them(settings, catalogue, orion):
     axes = pictures.picture(settings, orion.samples, catalogue).axes[0]
     (crosses,) = [line for line in axes.lines if line.get_marker() == "+"]
