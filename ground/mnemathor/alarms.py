@@ -12,7 +12,7 @@ from tqdm import tqdm
 from . import library
 from .attitude import in_frame, random_matrix, vectors
 from .configuration import angle_of
-from .folder import MAGNITUDE, PIXEL, UNIT
+from .folder import PIXEL, UNIT
 from .possible import Possible
 from .rates import in_words, upper_bound
 from .refusals import Mistake, Refused
@@ -97,11 +97,6 @@ def strange_positions(random, settings, catalogue, sky, weather):
         report = library.list_stars(render(settings, sky, random, weather, matrix).samples, settings)
         return [(star.x, star.y) for star in report.stars]
     raise Mistake(f"of {TRIES} attitudes none had {weather.least} stars of the list in the frame and none of the catalogue")
-
-
-def strange_weather(weather, catalogue):
-    """The weather of strange frames: a star as faint as the catalogue's faintest reaches twice the threshold, as in the catalogue's own frames."""
-    return weather if weather.faintest is not None else replace(weather, faintest=float(catalogue["magnitude"].max()) / MAGNITUDE)
 
 
 def measure(settings, catalogue, tolerances, needed, lists, stars=STARS, seed=0, strange=None, rivals=True, processes=None, quiet=False):

@@ -5,7 +5,7 @@ import json
 import os
 import re
 import sys
-from dataclasses import replace
+from dataclasses import fields, replace
 from pathlib import Path
 
 from . import configuration, frames, stars
@@ -135,10 +135,7 @@ def _add_catalogue(subcommands):
 
 
 def _catalogue(words):
-    if (words.around is None) != (words.within is None):
-        raise Mistake("--around and --within go together")
-    if words.around and abs(words.around[1]) > 90:
-        raise Mistake(f"--around: the declination {words.around[1]:g} is not -90 to 90")
+    _check_around(words)
     hours = True if words.hours else False if words.degrees else None
     which = {name: getattr(words, name) for name in ("columns", "number", "limit", "around", "within", "brightest", "apart", "force")}
     chosen = stars.convert(words.stars, words.folder, hours=hours, **which)
@@ -299,12 +296,23 @@ def _add_weather(words, **usual):
     words.add_argument("--mirror", action="store_true", help="columns the other way round, as by a mirrored readout")
     words.add_argument("--faintest", type=number(-100, 100), metavar="MAG", help="a star of this magnitude reaches twice the threshold; else the catalogue's faintest")
     words.add_argument("--least", type=whole(0, 512), default=plain.least, metavar="N", help="draw attitudes anew that have fewer catalogue stars in the frame")
+    words.add_argument("--around", type=number(-360, 360), nargs=2, metavar=("RA", "DEC"), help="point near this place, degrees; else anywhere that has stars")
+    words.add_argument("--within", type=number(0, 180), metavar="DEG", help="how near, with --around")
+
+
+def _check_around(words):
+    """A place of the sky, and how far from it, or neither."""
+    if (words.around is None) != (words.within is None):
+        raise Mistake("--around and --within go together")
+    if words.around and abs(words.around[1]) > 90:
+        raise Mistake(f"--around: the declination {words.around[1]:g} is not -90 to 90")
 
 
 def _weather(words):
     from .simulation import Weather
 
-    return Weather(*(getattr(words, name) for name in ("spread", "background", "noise", "hot", "false", "jitter", "mirror", "faintest", "least")))
+    _check_around(words)
+    return Weather(**{field.name: getattr(words, field.name) for field in fields(Weather)})
 
 
 def _add_simulate(subcommands):
@@ -359,6 +367,7 @@ def _add_trial(subcommands):
     words.add_argument("--tolerances", type=whole(0, 2**64 - 1), nargs="+", metavar="T", help="else 1/16, 1/8, 1/4, 1/2 and 1 pixel at the shorter side's separation; with --empty and --strange the folder's")
     words.add_argument("--needed", type=whole(), nargs="+", default=[3, 4, 5, 6], metavar="N", help="needed counts")
     words.add_argument("--off", type=number(0, 10000), default=1.0, metavar="PIXELS", help="an axis farther off than this is a wrong pointing")
+    words.add_argument("--sky", metavar="STARS", help="frames with every star of the list that the catalogue was made from, left out or not")
     words.add_argument("--rivals", action="store_true", help="also count the accepted frames that have no rival, and wrong names among them")
     _add_alarms(words)
     words.add_argument("--processes", type=whole(1, 1024), metavar="N", help="else as many as there are processors")
@@ -380,11 +389,11 @@ def _add_alarms(words):
 
 def _false_alarms(words, settings, catalogue):
     """False alarms alone: of random positions, or of frames of a star list."""
-    from . import alarms, trials
+    from . import alarms, simulation, trials
 
     if words.set or words.plot:
         raise Mistake("--set and --plot weigh false alarms against good frames: leave --empty and --strange out")
-    strange = None if words.strange is None else (stars.read_stars(words.strange).records, alarms.strange_weather(_weather(words), catalogue))
+    strange = None if words.strange is None else (stars.read_stars(words.strange).records, simulation.as_bright_as(_weather(words), catalogue))
     how = {"stars": words.stars or alarms.STARS, "seed": words.seed, "strange": strange, "processes": words.processes}
     tolerances = words.tolerances or [settings.tolerance]
     made = alarms.measure(settings, catalogue, tolerances, words.needed, 10000 if words.lists is None else words.lists, **how)
@@ -404,7 +413,7 @@ def _with_alarms(made, words, settings, catalogue):
 
 
 def _trial(words):
-    from . import trials
+    from . import simulation, trials
 
     settings, catalogue = read_settings(words.folder), read_catalogue(words.folder)
     if words.empty or words.strange is not None:
@@ -414,8 +423,10 @@ def _trial(words):
         raise Mistake("--set weighs false alarms too, and --lists 0 leaves them out; the settings stay")
     draw = _plotting(words, settings) if words.plot else lambda made: None
     tolerances = words.tolerances or trials.default_tolerances(settings)
-    rest = {"seed": words.seed, "off": words.off, "rivals": words.rivals, "processes": words.processes}
-    made = trials.trial(settings, catalogue, words.frames, tolerances, words.needed, _weather(words), **rest)
+    sky = None if words.sky is None else stars.read_stars(words.sky).records
+    weather = _weather(words) if sky is None else simulation.as_bright_as(_weather(words), catalogue)
+    rest = {"seed": words.seed, "off": words.off, "rivals": words.rivals, "processes": words.processes, "sky": sky}
+    made = trials.trial(settings, catalogue, words.frames, tolerances, words.needed, weather, **rest)
     if not made.stopped:
         made = _with_alarms(made, words, settings, catalogue)
     print(json.dumps(made.as_dict(), indent=1) if words.json else trials.table(made, settings), flush=True)

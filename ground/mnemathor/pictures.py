@@ -31,6 +31,8 @@ from .trials import shorter_side
 NAMED, UNNAMED, EDGE, LONE, UNLISTED, CATALOGUE, ASKED = "#39d353", "#ff9f1c", "#ffe14d", "#ff4d6d", "#7aa2ff", "#27d3f5", "#ff5cf4"
 # A ring is this part of the frame's width, and no smaller than a star's window.
 RING, WINDOW = 1 / 40, 3.5
+# A letter of a label, as a part of a ring's radius.
+LETTER = 0.4
 # Further stars of the catalogue, which the answer did not use: one that was found, and one that was missed; their ring is this part of a named star's.
 FOUND, MISSED, SMALL = "#b6f5a2", "#ff8a8a", 0.6
 # The legend's room, in inches.
@@ -49,11 +51,12 @@ def picture(settings, samples, catalogue, pixel=None, dpi=100):
     axes = figure.axes[0]
     _show(axes, samples)
     stars = solution.stars if solution else [_unnamed(number, star) for number, star in enumerate(report.stars)]
-    for star in stars:
-        _ring(axes, star, stars, ring(settings))
-    marks = bright_pixels(samples, settings, report)
-    counts = _mark(axes, marks, stars)
+    marks = _marks(bright_pixels(samples, settings, report), stars)
     confirmation = confirm(settings, samples, catalogue, solution) if solution else None
+    marked = [*stars, *(mark for kind in marks.values() for mark in kind), *(confirmation.stars if solution else [])]
+    for star in stars:
+        _ring(axes, star, marked, ring(settings))
+    counts = _mark(axes, marks)
     if solution:
         counts["catalogue"] = _mark_catalogue(axes, solution, catalogue, settings)
         counts.update(_mark_further(axes, confirmation, ring(settings)))
@@ -160,7 +163,7 @@ def _grid(axes, trial, tolerances, needed, value, colours):
     axes.imshow(values, cmap=colours, vmin=0, vmax=100, origin="lower", aspect="auto")
     for (row, column), share in np.ndenumerate(values):
         cell = cells[needed[row], tolerances[column]]
-        text = "-" if np.isnan(share) else f"{share:.1f}"
+        text = "-" if np.isnan(share) else f"{share:.2f}" if 0 < share < 0.1 else f"{share:.1f}"
         if share == 0 and colours == "Reds":
             bound = 100 * upper_bound(*value(cell))
             text = f"0\n(<{bound:.1f})" if bound >= 0.1 else f"0\n(<{bound:.2f})"
@@ -213,35 +216,40 @@ def _ring(axes, star, others, radius):
     named = star.identity is not None
     colour = NAMED if named else UNNAMED
     axes.add_patch(Circle((star.column, star.row), radius, fill=False, edgecolor=colour, linewidth=1.4, linestyle="-" if named else "--"))
-    across, down, side, height = _label_place(axes, star, others, radius)
     text = f"{star.number}: {star.identity if named else '-'}"
+    across, down, side, height = _label_place(axes, star, others, radius, LETTER * radius * len(text))
     axes.text(star.column + across, star.row + down, text, color=colour, fontsize=7.5, ha=side, va=height, clip_on=True)
 
 
-def _label_place(axes, star, others, radius):
-    """On which side of its ring a label stands: that with the most room to the other stars and to the frame's sides."""
+def _label_place(axes, star, others, radius, length):
+    """On which side of its ring a label stands: that with the most room to all other marks and to the frame's sides."""
     away = 1.2 * radius
     places = [(away, 0, "left", "center"), (-away, 0, "right", "center"), (0, away, "center", "top"), (0, -away, "center", "bottom")]
     wide, tall = axes.get_xlim()[1], axes.get_ylim()[0]
 
     def room(place):
-        column, row = star.column + 2.5 * place[0], star.row + 1.5 * place[1]
+        column, row = star.column + place[0] + np.sign(place[0]) * length / 2, star.row + 1.5 * place[1]
         nearest = min((np.hypot(other.column - column, other.row - row) for other in others if other is not star), default=np.inf)
-        inside = 0.8 * radius < column < wide - 0.8 * radius and 0.4 * radius < row < tall - 0.4 * radius
+        inside = length / 2 < column < wide - length / 2 and 0.4 * radius < row < tall - 0.4 * radius
         return (inside, min(nearest, 3 * radius))
 
     return max(places, key=room)
 
 
-def _mark(axes, marks, stars):
-    """Edge and lone pixels, and measured ones that are not among the listed; hands back how many there are of each."""
+def _marks(bright, stars):
+    """Edge and lone pixels, and measured ones that are not among the listed."""
     listed = {(round(star.column * PIXEL), round(star.row * PIXEL)) for star in stars}
-    unlisted = [verdict for verdict in marks["measured"] if (verdict.centroid.x, verdict.centroid.y) not in listed]
-    kinds = {"edge": (marks["edge"], EDGE, "s"), "lone": (marks["lone"], LONE, "x"), "unlisted": (unlisted, UNLISTED, "^")}
-    for verdicts, colour, marker in kinds.values():
-        for verdict in verdicts:
+    unlisted = [verdict for verdict in bright["measured"] if (verdict.centroid.x, verdict.centroid.y) not in listed]
+    return {"edge": bright["edge"], "lone": bright["lone"], "unlisted": unlisted}
+
+
+def _mark(axes, marks):
+    """A mark for each of these by its kind; hands back how many there are of each."""
+    looks = {"edge": (EDGE, "s"), "lone": (LONE, "x"), "unlisted": (UNLISTED, "^")}
+    for kind, (colour, marker) in looks.items():
+        for verdict in marks[kind]:
             axes.plot(verdict.column, verdict.row, marker=marker, color=colour, markersize=8, fillstyle="none", linestyle="")
-    return Counter({kind: len(verdicts) for kind, (verdicts, _, _) in kinds.items()})
+    return Counter({kind: len(verdicts) for kind, verdicts in marks.items()})
 
 
 def _mark_catalogue(axes, solution, catalogue, settings):

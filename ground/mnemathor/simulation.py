@@ -26,6 +26,8 @@ class Weather:
     mirror: bool = False
     faintest: float | None = None
     least: int = 3
+    around: tuple | None = None
+    within: float | None = None
 
     def check(self):
         """Numbers that mean nothing are a mistake."""
@@ -68,13 +70,20 @@ class Simulated:
         return {"seed": self.seed, **asdict(self.pointing), "matrix": self.matrix.tolist(), **lists, "weather": asdict(self.weather)}
 
 
-def simulate(settings, catalogue, seed, weather=Weather(), pointing=None):
-    """A frame of the catalogue: at the given pointing, else at any attitude, all equally likely, that has enough stars in the frame."""
+def simulate(settings, catalogue, seed, weather=Weather(), pointing=None, sky=None):
+    """A frame of the catalogue: at the given pointing, else at any attitude, all equally likely, that has enough stars in the frame.
+
+    With `sky`, the records of a star list, the frame has all of these instead: those too that the catalogue leaves out.
+    """
     weather.check()
     random = np.random.default_rng(seed)
-    sky = vectors(catalogue)
-    matrix, draws = _attitude(random, sky, settings, weather.least) if pointing is None else (matrix_of(pointing), 1)
-    return replace(render(settings, catalogue, random, weather, matrix), seed=seed, draws=draws)
+    matrix, draws = _attitude(random, vectors(catalogue), settings, weather) if pointing is None else (matrix_of(pointing), 1)
+    return replace(render(settings, catalogue if sky is None else sky, random, weather, matrix), seed=seed, draws=draws)
+
+
+def as_bright_as(weather, catalogue):
+    """The weather in which a star as faint as the catalogue's faintest reaches twice the threshold, unless it says how bright stars are."""
+    return weather if weather.faintest is not None else replace(weather, faintest=float(catalogue["magnitude"].max()) / MAGNITUDE)
 
 
 def render(settings, catalogue, random, weather, matrix):
@@ -91,14 +100,14 @@ def render(settings, catalogue, random, weather, matrix):
     return Simulated(samples, matrix, *(_seen(puts, weather, settings) for puts in (stars, false, hot)), weather=weather)
 
 
-def _attitude(random, sky, settings, least):
-    """An attitude with at least so many catalogue stars in the frame, and how many were drawn for it."""
-    region = _region(sky, settings)
+def _attitude(random, sky, settings, weather):
+    """An attitude with enough catalogue stars in the frame, and how many were drawn for it."""
+    region = _region(sky, settings) if weather.around is None else (matrix_of(Pointing(*weather.around, 0))[2], np.deg2rad(weather.within))
     for draws in range(1, TRIES + 1):
         matrix = random_matrix(random) if region is None else random_matrix_near(random, *region)
-        if np.count_nonzero(in_frame(matrix, sky, settings)[2]) >= least:
+        if np.count_nonzero(in_frame(matrix, sky, settings)[2]) >= weather.least:
             return matrix, draws
-    raise Mistake(f"of {TRIES} attitudes none had {least} stars of the catalogue in the frame")
+    raise Mistake(f"of {TRIES} attitudes none had {weather.least} stars of the catalogue in the frame")
 
 
 def _region(sky, settings):

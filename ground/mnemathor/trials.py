@@ -119,15 +119,20 @@ def default_tolerances(settings):
     return [tolerance_of(part * pixel_angle(settings), shorter_side(settings)) for part in PARTS]
 
 
-def trial(settings, catalogue, frames, tolerances, needed, weather, seed=0, off=1.0, rivals=False, processes=None, quiet=False):
-    """Simulates the frames and tries every pair of settings on each; `off` is the axis error, in pixels, from which a pointing is wrong."""
+def trial(settings, catalogue, frames, tolerances, needed, weather, seed=0, off=1.0, rivals=False, processes=None, quiet=False, sky=None):
+    """Simulates the frames and tries every pair of settings on each; `off` is the axis error, in pixels, from which a pointing is wrong.
+
+    With `sky`, the records of the list that the catalogue was taken from, the frames have the stars too that were left out.
+    """
     pairs = [replace(settings, tolerance=int(t), needed=int(n)) for t in tolerances for n in needed]
     if frames < 1 or not pairs:
         raise Mistake("a trial wants at least one frame, one tolerance and one needed count")
     _has_lens(settings)
     for pair in pairs:
         _refuse_early(pair, catalogue)
-    job = (settings, catalogue, _index(settings, catalogue), pairs, weather, seed, rivals)
+    if sky is not None and not np.isin(catalogue, sky).all():
+        raise Mistake("the sky lacks stars of the catalogue: name the list that the catalogue was made from")
+    job = (settings, catalogue, _index(settings, catalogue), pairs, weather, seed, rivals, sky)
     results = _gathered(_run(job, frames, processes, quiet))
     limit = (off * pixel_angle(settings)).to_value(u.arcsec)
     cells = tuple(_cell(pair, [outcomes[k] for outcomes, _ in results], limit) for k, pair in enumerate(pairs))
@@ -188,8 +193,8 @@ def _run(job, frames, processes, quiet):
 
 def _one(number):
     """One frame: its outcomes for all pairs, and how many attitudes were drawn for it. Its seed is the trial's with its number."""
-    settings, catalogue, index, pairs, weather, seed, rivals = _job
-    frame = simulate(settings, catalogue, (seed, number), weather)
+    settings, catalogue, index, pairs, weather, seed, rivals, sky = _job
+    frame = simulate(settings, catalogue, (seed, number), weather, sky=sky)
     return [_judge(frame, pair, catalogue, index, rivals) for pair in pairs], frame.draws
 
 

@@ -15,6 +15,7 @@ from mnemathor.folder import STAR, read_settings
 from mnemathor.possible import Possible, threes_of
 from mnemathor.rates import at_least, in_words, upper_bound
 from mnemathor.refusals import Refused
+from mnemathor.simulation import Weather, as_bright_as
 from mnemathor.trials import Cell, none_seen
 
 NARROW = 2 * 10**14
@@ -169,14 +170,8 @@ def test_strange_frames(run, folder, settings, catalogue):
     told = json.loads(out)
     assert status == 0 and told["kind"] == "strange" and told["lists"] == 12
     assert told["cells"][1]["accepted"] == 0
-    random, weather = np.random.default_rng(1), alarms.strange_weather(alarms_weather(), north)
+    random, weather = np.random.default_rng(1), as_bright_as(Weather(least=6), north)
     assert len(alarms.strange_positions(random, settings, north, stars.read_stars(BRIGHT).records, weather)) >= 3
-
-
-def alarms_weather():
-    from mnemathor.simulation import Weather
-
-    return Weather(least=6)
 
 
 def test_what_was_judged_is_told_when_it_is_stopped(settings, catalogue, monkeypatch, run, folder):

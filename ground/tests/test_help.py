@@ -78,5 +78,5 @@ def test_the_commands_of_settings_md_are_commands():
     lines = re.findall(r"^    \./mnemathor (.*)$", guide, re.MULTILINE)
     assert len(lines) > 8
     for line in lines:
-        words = [{"K": "1", "J": "0.1", "W": "4.5", "A": "0.1", "N": "512"}.get(word, word) for word in line.split()]
+        words = [{"K": "1", "J": "0.1", "W": "4.5", "A": "0.1", "M": "8"}.get(word, word) for word in line.split()]
         assert parser().parse_args(words).run

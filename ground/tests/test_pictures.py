@@ -6,14 +6,15 @@ from dataclasses import replace
 import matplotlib.colors
 import numpy as np
 import pytest
-from conftest import three_stars
+from conftest import BRIGHT, HERE, three_stars
 from matplotlib.image import imread
 from matplotlib.patches import Circle
 
-from mnemathor import library, pictures, solving
+from mnemathor import alarms, library, pictures, solving, trials
 from mnemathor.attitude import Pointing
 from mnemathor.simulation import Weather, simulate
 
+EXAMPLE, CAMERA = HERE / "data" / "example.fits", HERE / "data" / "camera.toml"
 WEATHER = Weather(hot=4, false=2, jitter=0.03)
 
 
@@ -78,6 +79,35 @@ def test_the_drawing_has_every_mark(settings, catalogue, orion):
     assert lone == {(verdict.column, verdict.row) for verdict in marks["lone"]} and len(lone) == report.lone
     unlisted = [line for line in axes.lines if line.get_marker() == "^"]
     assert len(unlisted) == report.measured - len(report.stars)
+
+
+def test_no_label_lies_on_another_ring(run, tmp_path):
+    """README's picture, whose brightest star has further ones close by."""
+    night = tmp_path / "night"
+    for words in (("frame", EXAMPLE, night), ("catalogue", BRIGHT, night, "--brightest", 512, "--apart", 1), ("settings", CAMERA, night)):
+        assert run(*words)[0] == 0
+    figure = pictures.picture(*solving.read_folder(night))
+    figure.draw_without_rendering()
+    axes = figure.axes[0]
+    rings = [patch.get_window_extent() for patch in axes.patches if isinstance(patch, Circle)]
+    assert len(rings) == 14 and len(axes.texts) == 8
+    for text in axes.texts:
+        assert not any(text.get_window_extent().overlaps(ring) for ring in rings), text
+
+
+def test_labels_are_whole(settings, catalogue):
+    """Identities of ten digits on stars near the sides."""
+    catalogue = catalogue.copy()
+    catalogue["identity"] += 4 * 10**9
+    for number in range(4):
+        made = simulate(settings, catalogue, (7, number), Weather(least=8))
+        figure = pictures.picture(settings, made.samples, catalogue)
+        figure.draw_without_rendering()
+        axes = figure.axes[0]
+        sides = axes.get_window_extent()
+        for text in axes.texts:
+            box = text.get_window_extent()
+            assert sides.x0 <= box.x0 and box.x1 <= sides.x1, (number, text)
 
 
 def test_catalogue_stars_stand_where_the_matrix_puts_them(settings, catalogue, orion):
@@ -159,6 +189,15 @@ def test_the_stretch_goes_by_sky_and_noise(settings, catalogue, orion):
 def test_the_mirror_is_told_on_the_picture(run, folder, tmp_path):
     assert run("simulate", folder, "--seed", 2, "--least", 7, "--mirror")[0] == 0
     assert "is the readout mirrored?" in run("picture", folder, tmp_path / "out.png")[1].replace("\n", " ")
+
+
+def test_a_rare_false_alarm_is_no_zero_in_the_grid(settings):
+    cells = tuple(trials.Cell(10**14, needed, 100, accepted, 0, 0, {}, None, None, None, None) for needed, accepted in ((4, 80), (5, 0)))
+    counted = tuple(alarms.Cell(10**14, needed, 3000, seen, 0, {}) for needed, seen in ((4, 1), (5, 0)))
+    counted = alarms.Alarms(counted, 3000, 3000, 0, "random", False)
+    figure = pictures.trial_picture(trials.Trial(cells, 100, 0, 1.0, 100, counted), settings)
+    told = [[text.get_text() for text in axes.texts] for axes in figure.axes]
+    assert told == [["80.0", "0.0"], ["0\n(<3.7)", "-"], ["0\n(<3.7)", "-"], ["0.03", "0\n(<0.10)"]]
 
 
 def test_the_ending_says_which_kind(run, folder, tmp_path):

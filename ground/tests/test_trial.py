@@ -4,9 +4,10 @@ import json
 from dataclasses import replace
 
 import pytest
+from conftest import BRIGHT
 
-from mnemathor import library
-from mnemathor.attitude import Pointing
+from mnemathor import library, stars
+from mnemathor.attitude import Pointing, angle_between, matrix_of
 from mnemathor.folder import read_settings
 from mnemathor.simulation import Weather, simulate
 from mnemathor.trials import Cell, Trial, none_seen, wrong_names
@@ -90,6 +91,34 @@ def test_a_mirrored_readout_is_not_accepted(run, folder):
     words = ("--frames", 12, "--needed", 5, "--tolerances", 186 * 10**12, "--mirror", "--least", 6, "--lists", 0, "--json")
     status, out, _ = run("trial", folder, *words)
     assert status == 0 and json.loads(out)["cells"][0]["accepted"] == 0 and json.loads(out)["recommended"] is None
+
+
+def test_a_sky_with_the_stars_that_were_left_out(run, folder, settings, catalogue, tmp_path):
+    """A catalogue of every other star: with the sky, frames have these too, and the lists have places for fewer names."""
+    thin = catalogue[::2]
+    (folder / "catalogue.bin").write_bytes(thin.tobytes())
+    alone, all_of_it = (simulate(settings, thin, 6, Weather(), Pointing(83.5, -1, 350), sky=sky) for sky in (None, stars.read_stars(BRIGHT).records))
+    names, known = {star.identity for star in all_of_it.stars}, set(thin["identity"].tolist())
+    assert {star.identity for star in alone.stars} == names & known < names
+    words = ("trial", folder, "--frames", 16, "--needed", 5, "--tolerances", 186 * 10**12, "--false", 0, "--lists", 0, "--json")
+    with_sky, without = (json.loads(run(*words, *more)[1])["cells"][0] for more in (("--sky", BRIGHT), ()))
+    assert 0 < with_sky["accepted"] < without["accepted"] and with_sky["wrong_names"] == 0
+    other = tmp_path / "other.csv"
+    other.write_text("id,ra,dec,vt\n1,83.5,-1,2\n2,240,60,3\n")
+    status, out, err = run(*words, "--sky", other)
+    assert status == 2 and out == "" and "the sky lacks stars of the catalogue" in err
+
+
+def test_where_the_camera_points(run, folder, settings, catalogue):
+    for number in range(12):
+        made = simulate(settings, catalogue, number, Weather(around=(83.5, -1), within=5))
+        assert angle_between(made.matrix[2], matrix_of(Pointing(83.5, -1, 0))[2]) <= 5 * 3600
+    words = ("trial", folder, "--frames", 2, "--lists", 0)
+    assert run(*words, "--around", 83.5, -1, "--within", 5)[0] == 0
+    together = "--around and --within go together"
+    for wrong, told in ((("--around", 83.5, -1), together), (("--within", 5), together), (("--around", 1, 91, "--within", 5), "91 is not -90 to 90")):
+        status, _, err = run(*words, *wrong)
+        assert status == 2 and told in err
 
 
 def test_rivals_are_counted(run, folder):
