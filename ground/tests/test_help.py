@@ -69,6 +69,11 @@ def test_commands_md_has_a_section_for_each_subcommand_and_for_nothing_else():
     assert (ROOT / "docs" / "COMMANDS.md").read_text().count("\n### ") == len(told)
 
 
+def test_changelog_begins_with_the_version_of_the_header(mnemathor):
+    newest = re.search(r"^## ([0-9.]+)$", (ROOT / "CHANGELOG.md").read_text(), re.MULTILINE)[1]
+    assert mnemathor("--version").stdout == f"mnemathor {newest}\n"
+
+
 def test_readme_is_short():
     assert len((ROOT / "README.md").read_bytes()) <= 8192
 
