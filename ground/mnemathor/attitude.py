@@ -4,7 +4,7 @@ from dataclasses import dataclass
 
 import numpy as np
 from astropy import units as u
-from astropy.coordinates import SkyCoord
+from astropy.coordinates import Angle, SkyCoord
 from astropy.coordinates.matrix_utilities import rotation_matrix
 
 from .folder import PIXEL, UNIT
@@ -19,10 +19,22 @@ class Pointing:
     roll: float
 
 
+    @property
+    def sexagesimal(self):
+        """Right ascension in hours, declination in degrees, both with minutes and seconds."""
+        # Rounded before it is brought below 24 hours.
+        ra, dec = Angle(round(self.ra * 240, 2) % 86400 / 240 * u.deg), Angle(self.dec * u.deg)
+        return f"{ra.to_string(u.hour, sep=':', precision=2, pad=True)} {dec.to_string(u.deg, sep=':', precision=1, pad=True, alwayssign=True)}"
+
+
 def pointing_of(rows):
     """The pointing of a matrix: its rows are right, down and out to the sky, as directions of the sky."""
-    axis, up = _place(rows[2]), _place(-np.asarray(rows[1]))
-    return Pointing(axis.ra.deg, axis.dec.deg, axis.position_angle(up).deg % 360)
+    _, down, (x, y, z) = np.asarray(rows, float)
+    ra, dec = np.arctan2(y, x), np.arctan2(z, np.hypot(x, y))
+    east = np.array([-np.sin(ra), np.cos(ra), 0])
+    north = np.array([-np.sin(dec) * np.cos(ra), -np.sin(dec) * np.sin(ra), np.cos(dec)])
+    roll = np.arctan2(-down @ east, -down @ north)
+    return Pointing(float(np.rad2deg(ra) % 360), float(np.rad2deg(dec)), float(np.rad2deg(roll) % 360))
 
 
 def matrix_of(pointing):
@@ -68,7 +80,7 @@ def in_frame(rows, directions, settings):
 def angle_between(a, b):
     """The angle of directions to directions, in arc seconds."""
     across = np.linalg.norm(np.cross(a, b), axis=-1)
-    return (np.arctan2(across, np.sum(np.multiply(a, b), axis=-1)) * u.rad).to_value(u.arcsec)
+    return np.rad2deg(np.arctan2(across, np.sum(np.multiply(a, b), axis=-1))) * 3600
 
 
 def turn_between(rows, others):

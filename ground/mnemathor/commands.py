@@ -39,7 +39,7 @@ def parser():
     """All subcommands."""
     top = _Parser(prog="./mnemathor", description="The star camera on the ground.")
     subcommands = top.add_subparsers(required=True, metavar="SUBCOMMAND")
-    for add in (_add_frame, _add_catalogue, _add_settings, _add_solve, _add_picture, _add_simulate, _add_trial):
+    for add in (_add_frame, _add_catalogue, _add_settings, _add_solve, _add_follow, _add_picture, _add_simulate, _add_trial):
         add(subcommands)
     return top
 
@@ -81,6 +81,12 @@ def _add_frame(subcommands):
     )
     words.add_argument("image", metavar="IMAGE", help="the image file")
     words.add_argument("folder", metavar="FOLDER", help="where frame.bin and settings.bin go; made if it is not there")
+    _add_image(words)
+    _add_force(words, "frame.bin that frame or simulate did not make, and move a calibrated centre to the middle")
+
+
+def _add_image(words):
+    """How an image becomes a frame."""
     words.add_argument("--bin", type=whole(1), default=1, metavar="N", help="each sample the mean of N x N pixels; left over rows and columns are dropped")
     words.add_argument("--crop", type=whole(), nargs=4, metavar=("LEFT", "TOP", "WIDTH", "HEIGHT"), help="a part of the image, in its pixels, before binning")
     words.add_argument("--dark", metavar="IMAGE", help="an image to take off first, pixel by pixel")
@@ -89,7 +95,6 @@ def _add_frame(subcommands):
     words.add_argument("--mirror", action="store_true", help="left column last, for a readout that is mirrored")
     words.add_argument("--hdu", type=whole(), metavar="N", help="the unit of a FITS file that has several images, counted from 0")
     words.add_argument("--plane", type=whole(), metavar="N", help="the plane of a cube, or the colour of a picture, counted from 0")
-    _add_force(words, "frame.bin that frame or simulate did not make, and move a calibrated centre to the middle")
 
 
 def _frame(words):
@@ -196,14 +201,18 @@ def _add_solve(subcommands):
         "how many of the catalogue's others in the frame lie within two pixels of a measured position, and how many would by chance. Where they "
         "are too few to tell, it says how often random positions get as many names; that is counted once and kept in alarms.json. For a frame "
         "that is refused with 12, 13 or 14 the list, sky, noise and saturated samples are told, and after 13 whether a mirror image, a wider "
-        "tolerance, one needed fewer or another focal length near by would fit.",
+        "tolerance, one needed fewer or another focal length near by would fit. The check over all named stars is the rotation that fits them best in "
+        "least squares. It is no part of the answer, which is the flight's own; it warns where the answer's two stars are close together, or where the "
+        "two differ by more than the stars' scatter allows.",
     )
     words.add_argument("folder", metavar="FOLDER", help="has settings.bin, catalogue.bin and frame.bin")
     words.add_argument("--json", action="store_true", help="print JSON")
+    words.add_argument("--wcs", metavar="OUT", help="write the frame's world coordinates for other tools: .fits with the frame in it, .wcs alone")
+    _add_force(words, "file OUT that the tools did not make")
 
 
 def _solve(words):
-    from . import confirmation, diagnosis, solving
+    from . import confirmation, diagnosis, headers, rotation, solving
 
     settings, samples, catalogue = solving.read_folder(words.folder)
     try:
@@ -211,12 +220,16 @@ def _solve(words):
     except Refused as refusal:
         hints = _tell_refused(refusal, settings, samples, catalogue, words.json)
         raise refusal.with_note("; ".join(hints) or None) from refusal
+    if words.wcs:
+        write_file(words.wcs, headers.written(words.wcs, settings, samples, solution), words.force)
     worth = confirmation.worth(words.folder, settings, samples, catalogue, solution)
+    check = rotation.best(settings, catalogue, solution)
     if words.json:
         measured = diagnosis.measure(settings, samples, catalogue)
-        print(json.dumps({"refused": None, **solution.as_dict(), **measured.as_dict(), **worth.as_dict()}, indent=1))
+        told = {"refused": None, **solution.as_dict(), "sexagesimal": solution.pointing.sexagesimal, "check": check.as_dict()}
+        print(json.dumps({**told, **measured.as_dict(), **worth.as_dict()}, indent=1))
     else:
-        _tell(solution, worth)
+        _tell(solution, worth, check)
 
 
 def _tell_refused(refusal, settings, samples, catalogue, as_json):
@@ -235,9 +248,10 @@ def _tell_refused(refusal, settings, samples, catalogue, as_json):
     return list(hints.values())
 
 
-def _tell(solution, worth):
+def _tell(solution, worth, check):
     where = solution.pointing
     print(f"right ascension {where.ra:.5f}  declination {where.dec:+.5f}  roll {where.roll:.4f}  (degrees)")
+    print(f"right ascension and declination {where.sexagesimal}")
     print(f"measured {solution.measured} edge {solution.edge} lone {solution.lone}")
     print(f"{'':>2} {'column':>9} {'row':>9} {'brightness':>10} {'identity':>10} {'magnitude':>9} {'residual':>9}")
     for star in solution.stars:
@@ -246,7 +260,115 @@ def _tell(solution, worth):
     if solution.rival is not None:
         other = ", ".join(f"star {number} as {identity}" for number, identity in solution.rival.items())
         print(f"WARNING: another identification fits as well; it has {other}")
+    print("\n".join(check.lines()))
     print(worth)
+
+
+# follow
+
+
+def _add_follow(subcommands):
+    words = _add(
+        subcommands,
+        "follow",
+        _follow,
+        "follows a night's frames, with guides and a log",
+        "FRAMES are image files, or folders of them. Each frame is solved as solve does, and gets a line in the log FOLDER/night.jsonl and .csv: time (DATE-OBS, "
+        "else the file's), file, counts, refusal or pointing, names, alone or not, confirmed or not, the check over all named stars, and each guide's offset "
+        "from its start in pixels and misses in a row. Every line is on the disk before the next frame. The guider starts at the first answer that is alone and, "
+        "where further stars can tell, confirmed, with up to four named stars, the brightest that stand apart; when all guides are dropped the next such answer "
+        "starts it afresh. A file that cannot be read is a line. At the end, or after Ctrl-C, stands a summary of the whole log; --resume goes on with a log "
+        "that was broken off. Status 0 however many frames are refused; 130 after Ctrl-C.",
+    )
+    words.add_argument("folder", metavar="FOLDER", help="has settings.bin and catalogue.bin; the log goes there")
+    words.add_argument("frames", metavar="FRAMES", nargs="+", help="image files, or a folder of them")
+    words.add_argument("--order", choices=("name", "date"), default="name", help="frames of a folder by their file's name, or all by DATE-OBS")
+    words.add_argument("--watch", action="store_true", help="FRAMES is one folder in which frames arrive; a file still being written is waited for")
+    words.add_argument("--poll", type=number(0.01, 3600), default=1.0, metavar="SECONDS", help="how often --watch looks")
+    words.add_argument("--idle", type=number(0, 10**6), metavar="SECONDS", help="--watch ends so long after the last frame; else by Ctrl-C")
+    words.add_argument("--box", type=number(0, 10), default=5.0, metavar="PIXELS", help="half the width of a guide's box")
+    words.add_argument("--log", metavar="OUT", help="the log is OUT.jsonl and OUT.csv; else night in FOLDER")
+    words.add_argument("--resume", action="store_true", help="go on with a log that is there")
+    words.add_argument("--plot", metavar="OUT.png", help="draw pointing, guides and counts; .png, .pdf or .svg")
+    words.add_argument("--json", action="store_true", help="print the summary as JSON")
+    _add_image(words)
+    _add_force(words, "file OUT.png that the tools did not make")
+
+
+def _follow(words):
+    from . import arriving, following, library, nightlog, nightsummary
+
+    if words.watch and (len(words.frames) != 1 or not Path(words.frames[0]).is_dir()):
+        raise Mistake("--watch wants one folder")
+    settings, catalogue = read_settings(words.folder), read_catalogue(words.folder)
+    configuration.check(settings)
+    library.check_catalogue(catalogue)
+    draw = _night_plotting(words) if words.plot else lambda path: None
+    found = [] if words.watch else arriving.listed(words.frames, words.order)
+    if not words.watch and not found:
+        raise Mistake(f"{words.frames[0]} has no image files")
+    how = {name: getattr(words, name) for name in ("dark", "crop", "full", "flip", "mirror", "hdu", "plane")} | {"binning": words.bin}
+    follower = following.Follower(settings, catalogue, words.box)
+    head = nightlog.head(settings, catalogue, words.box, how)
+    log = nightlog.Log(words.log or Path(words.folder) / "night", head, words.resume)
+    try:
+        done = _behind(log, follower)
+        waiting = [each for each in found if each[0] not in done]
+        arrived = arriving.watched(words.frames[0], how, done, words.poll, words.idle) if words.watch else (arriving.read(*each, how) for each in waiting)
+        stopped = _through(following.follow(follower, log, arrived, len(done)), None if words.watch else len(waiting), words)
+    finally:
+        log.close()
+    summary = nightsummary.summarise(nightlog.read(log.lines))
+    print(json.dumps(summary.as_dict(), indent=1) if words.json else "\n".join(summary.lines()), flush=True)
+    draw(log.lines)
+    if stopped:
+        print(f"mnemathor: {log.lines} has {summary.frames} frames; --resume goes on", file=sys.stderr)
+        raise KeyboardInterrupt
+
+
+def _behind(log, follower):
+    """The names of the frames that a log has; the follower stands behind the last of them."""
+    from .nightlog import read
+
+    done, last = set(), None
+    for last in read(log.lines):
+        done.add(last["file"])
+    if last is not None:
+        follower.restore(last)
+    return done
+
+
+def _through(lines, total, words):
+    """Goes through the frames with a bar; says whether that was interrupted. Frames that arrive are told a line each."""
+    from tqdm import tqdm
+
+    try:
+        for line in tqdm(lines, total=total, unit="frame", disable=True if words.watch else None):
+            if words.watch and not words.json:
+                print(_in_a_line(line), flush=True)
+    except KeyboardInterrupt:
+        return True
+    return False
+
+
+def _in_a_line(line):
+    """A frame's line for somebody who watches."""
+    if line["error"] is not None:
+        return f"{line['time']} {line['file']}: {line['error']}"
+    guides = ", ".join(f"{guide['identity']} {guide['dx']:+.2f} {guide['dy']:+.2f} ({guide['misses']})" for guide in line["guides"])
+    if line["refused"] is not None:
+        return f"{line['time']} {line['file']}: refused {line['refused']}; guides {guides or 'none'}"
+    words = "alone" if line["alone"] else "rival", {True: "confirmed", False: "not confirmed", None: "cannot tell"}[line["confirmed"]]
+    return f"{line['time']} {line['file']}: {line['ra']:.4f} {line['dec']:+.4f} {line['roll']:.3f}, {', '.join(words)}; guides {guides or 'none'}"
+
+
+def _night_plotting(words):
+    """What draws a night; whether that can be written is asked before, not after."""
+    from . import nightsummary, pictures
+
+    kind = pictures.kind_of(words.plot)
+    may_write(words.plot, words.force)
+    return lambda path: write_file(words.plot, pictures.drawn(nightsummary.picture(path), kind), words.force)
 
 
 # picture

@@ -131,9 +131,13 @@ def look(samples, settings):
 
 def _peaks(samples):
     """The pixels that no other of their window exceeds: every measured pixel is one."""
-    padded = np.pad(samples, HALF)
-    shifts = [padded[down : down + samples.shape[0], right : right + samples.shape[1]] for down in range(2 * HALF + 1) for right in range(2 * HALF + 1)]
-    return samples >= np.max(shifts, axis=0)
+    return samples >= _largest(_largest(samples).T).T
+
+
+def _largest(samples):
+    """For each pixel the largest of its row within half a window."""
+    padded = np.pad(samples, ((0, 0), (HALF, HALF)))
+    return np.max([padded[:, right : right + samples.shape[1]] for right in range(2 * HALF + 1)], axis=0)
 
 
 def _further(settings, catalogue, solution, columns, rows):
@@ -166,6 +170,8 @@ def _chance(settings, measured, named, star):
     right, bottom = min(settings.width - 1 - HALF, star.column + SURROUNDINGS), min(settings.height - 1 - HALF, star.row + SURROUNDINGS)
     columns, rows = np.meshgrid(np.arange(left, right + 0.5), np.arange(top, bottom + 0.5))
     places = np.column_stack([columns.ravel(), rows.ravel()])
+    # What is outside the surroundings by more than it reaches has no say.
+    named, measured = (points[(abs(points - (star.column, star.row)) <= SURROUNDINGS + 1 + reach).all(axis=1)] for points, reach in ((named, AROUND), (measured, NEAR)))
     places = places[_far(places, named, AROUND)]
     return float(np.mean(~_far(places, measured, NEAR))) if len(places) else 1.0
 

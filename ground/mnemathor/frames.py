@@ -1,6 +1,7 @@
 """An image becomes a frame: dark taken off, cut, binned, and brought to the camera's depth of 12 bits."""
 
 from dataclasses import dataclass
+from functools import lru_cache
 
 import numpy as np
 from astropy.nddata import block_reduce
@@ -100,8 +101,14 @@ def _about_binning(binning, before, settings):
     return notes
 
 
+@lru_cache(maxsize=1)
+def _dark_values(path, hdu, plane):
+    """A dark image is read once, for however many frames."""
+    return read_image(path, hdu, plane).values.astype(float)
+
+
 def _dark(path, shape, hdu, plane):
-    dark = read_image(path, hdu, plane).values.astype(float)
+    dark = _dark_values(path, hdu, plane)
     if dark.shape != shape:
         raise Mistake(f"the dark image {path} has {_size(dark.shape)} pixels, the image {_size(shape)}")
     return dark

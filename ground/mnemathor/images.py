@@ -33,7 +33,7 @@ def read_image(path, hdu=None, plane=None):
     if not path.is_file():
         raise Mistake(f"{path} is not a file")
     try:
-        if _is_fits(path):
+        if is_fits(path):
             return _with_warnings(_read_fits, path, hdu, plane)
         if path.suffix.lower() == ".npy":
             return _plane(np.load(path, allow_pickle=False), path, plane)
@@ -55,7 +55,7 @@ def _with_warnings(read, *arguments):
     return replace(image, notes=image.notes + tuple(f"astropy warns: {str(each.message).split(chr(10))[0]}" for each in told))
 
 
-def _is_fits(path):
+def is_fits(path):
     endings = [ending.lower() for ending in path.suffixes if ending.lower() not in (".gz", ".bz2")]
     return bool(endings) and endings[-1] in FITS_ENDINGS
 

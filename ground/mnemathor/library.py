@@ -359,6 +359,15 @@ class Guider:
         lent = np.array(guides, np.int64).reshape(-1)
         _call("mn_guider_start", half_width, *_lent(lent), byref(self._guider))
 
+    @classmethod
+    def of(cls, half_width, guides):
+        """A guider as it stood: guides are identity, x, y and misses each. The next frame's call judges it."""
+        made = cls(half_width, [])
+        made._guider.count = len(guides)
+        for place, guide in enumerate(guides):
+            made._guider.guides[place] = c.Guide(*guide)
+        return made
+
     @property
     def guides(self):
         """The guides as they stand."""

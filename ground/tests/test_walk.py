@@ -33,6 +33,7 @@ def test_the_walk(tmp_path):
     assert "recommended" in answers["trial"]
     drawn, shown = imread(tmp_path / "night.png"), imread(ROOT / "docs" / "pictures" / "orion.png")
     assert drawn.shape == shown.shape and (abs(drawn - shown).max(axis=2) > 0.2).mean() < 0.0005
-    # README shows what solve prints.
+    # README and docs/NIGHT.md show what solve prints.
+    shown = README + (ROOT / "docs" / "NIGHT.md").read_text()
     for line in answers["solve"].splitlines():
-        assert f"       {line.rstrip()}\n" in README, line
+        assert f"    {line.rstrip()}\n" in shown, line
