@@ -15,7 +15,7 @@ import numpy as np
 import pytest
 from conftest import HERE, ROOT
 
-from mnemathor import commands, following, library, nightlog, nights, nightsummary, stars
+from mnemathor import arriving, commands, following, library, nightlog, nights, nightsummary, stars
 from mnemathor.attitude import Pointing, angle_between, matrix_of
 from mnemathor.folder import PIXEL, settings_bytes
 from mnemathor.frames import make_frame
@@ -268,28 +268,55 @@ def test_killed_and_interrupted_for_real(night, run, tmp_path, how, status):
 def test_frames_that_arrive(night, run, tmp_path):
     """Frames come one after the other, one of them in two halves; each is logged once, whole."""
     where, truth, lines = night
-    arriving = tmp_path / "arriving"
-    arriving.mkdir()
+    place = tmp_path / "arriving"
+    place.mkdir()
     files = sorted((where / "frames").iterdir())[:6]
 
     def arrive():
         for number, path in enumerate(files):
             contents = path.read_bytes()
             if number == 3:
-                (arriving / path.name).write_bytes(contents[:30000])
+                (place / path.name).write_bytes(contents[:30000])
                 time.sleep(0.4)
-            (arriving / path.name).write_bytes(contents)
+            (place / path.name).write_bytes(contents)
             time.sleep(0.1)
-        (arriving / ".frame-9999.fits").write_bytes(b"hidden")
-        (arriving / "notes.txt").write_text("no frame")
+        (place / ".frame-9999.fits").write_bytes(b"hidden")
+        (place / "notes.txt").write_text("no frame")
 
     writer = threading.Thread(target=arrive)
     writer.start()
-    status, out, _ = run("follow", where / "camera", arriving, "--watch", "--poll", 0.05, "--idle", 1.5, "--log", tmp_path / "log")
+    status, out, _ = run("follow", where / "camera", place, "--watch", "--poll", 0.05, "--idle", 1.5, "--log", tmp_path / "log")
     writer.join()
     logged = list(nightlog.read(tmp_path / "log.jsonl"))
     assert status == 0 and [same(line) for line in logged] == [same(line) for line in lines[:6]]
     assert len([line for line in out.splitlines() if re.match(r"2026-.*: \d", line)]) == 6 and "6 frames: 6 accepted" in out
+
+
+def test_a_file_that_still_changes_is_waited_for(night, tmp_path, monkeypatch):
+    """First a file of the right size with nothing in it, which could be read, then the frame; and a damaged file that nobody writes to any more."""
+    where, _, _ = night
+    real = (where / "frames" / "frame-0000.fits").read_bytes()
+    path = tmp_path / "a.fits"
+    now = time.time()
+
+    def put(contents, age):
+        path.write_bytes(contents)
+        os.utime(path, (now - age, now - age))
+
+    steps = iter([lambda: put(real[:2880] + bytes(len(real) - 2880), 3), lambda: put(real, 2), lambda: None])
+    monkeypatch.setattr(arriving.time, "sleep", lambda _: next(steps)())
+    name, _, samples, error = next(arriving.watched(tmp_path, {}, set(), 1.0))
+    assert (name, error) == ("a.fits", None) and (samples == make_frame(where / "frames" / "frame-0000.fits").samples).all() and next(steps, None) is None
+    for age, looks in ((100, 1), (1, 6)):
+        put(real[:30000], age)
+        steps = iter([lambda: None] * looks)
+        watching = arriving.watched(tmp_path, {}, set(), 1.0)
+        if age > arriving.PATIENCE:
+            assert "cannot be read" in next(watching)[3]
+        else:
+            # Still young: it is looked at again and again.
+            with pytest.raises(RuntimeError):
+                next(watching)
 
 
 def test_a_log_is_neither_overwritten_nor_mixed(night, run, tmp_path, settings, catalogue):
