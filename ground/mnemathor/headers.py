@@ -11,10 +11,10 @@ from .refusals import Mistake
 
 
 def header(settings, solution):
-    """The frame's world coordinates, a tangential projection. FITS counts from 1, and its rows go from the bottom up."""
+    """The frame's world coordinates, a tangential projection, in the catalogue's own system. FITS counts from 1, and its rows go from the bottom up."""
     right, down, axis = library.cosines(solution.matrix)
     where = solution.pointing
-    ra, dec = np.deg2rad([where.ra, where.dec])
+    ra = np.deg2rad(where.ra)
     east = np.array([-np.sin(ra), np.cos(ra), 0])
     north = np.cross(axis, east)
     scale = np.rad2deg(PIXEL / settings.focal)
@@ -32,7 +32,6 @@ def header(settings, solution):
         ("CD1_2", -scale * float(down @ east)),
         ("CD2_1", scale * float(right @ north)),
         ("CD2_2", -scale * float(down @ north)),
-        ("RADESYS", "ICRS"),
         ("CREATOR", "mnemathor"),
     ]
     return fits.Header(cards)
