@@ -165,10 +165,12 @@ def _add_settings(subcommands):
         "= '10 deg' }, which is 10^18 x |cos(separation + angle) - cos(separation)|. lens is { pixels = 64.0 }, or { millimetres = 12.0, "
         "micrometres = 7.5 } for focal length and pixel pitch, those of the camera before binning: how the folder's frame was binned is "
         "read from made.json, unless binning says it. centre is [column, row] in the frame's pixels. Printed are the settings as they are "
-        "then, with the angle of a pixel and of the frame.",
+        "then, with the angle of a pixel and of the frame; with --covers also the tolerance that is sure to cover such an error of every "
+        "position, in any field (SETTINGS has the law and what comes on top).",
     )
     words.add_argument("source", metavar="FILE.toml", help="the TOML file; or the folder to read")
     words.add_argument("target", metavar="FOLDER", help="where settings.bin goes; or the TOML file to write")
+    words.add_argument("--covers", type=number(0, 100), metavar="PIXELS", help="also print the tolerance that covers positions off by at most this")
     _add_force(words, "settings.bin or TOML file that the tools did not make, or that was changed since")
 
 
@@ -183,6 +185,10 @@ def _settings(words):
     if binning > 1:
         print(f"# the folder's frame is binned {binning} x {binning}, and the lens with it")
     print(configuration.toml_of(settings), end="")
+    if words.covers is not None:
+        wanted = configuration.covering_tolerance(settings.focal, words.covers)
+        beyond = ", which is more than a tolerance may be" if wanted > configuration.MOST_TOLERANT else ""
+        print(f"# a tolerance of {wanted}{beyond} covers positions off by at most {words.covers:g} pixel, in any field")
 
 
 # solve

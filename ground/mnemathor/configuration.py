@@ -1,5 +1,6 @@
 """Settings as a TOML file that people write, and back."""
 
+import math
 import tomllib
 from dataclasses import replace
 from pathlib import Path
@@ -14,6 +15,8 @@ from .keeping import record_of, text_mark, write_file, write_folder
 from .refusals import Mistake, Refused
 
 KEYS = {"width", "height", "threshold", "needed", "tolerance", "centre", "lens", "binning"}
+# The largest tolerance.
+MOST_TOLERANT = 10**16
 # Which numbers each refusal of the settings is about.
 ABOUT = {1: ("width", "height"), 3: ("threshold",), 5: ("cx", "cy"), 9: ("needed", "tolerance"), 19: ("focal",)}
 
@@ -33,6 +36,16 @@ def angle_of(tolerance, separation):
     """The angle that a tolerance allows two directions of that separation to be farther apart."""
     cosine = np.cos(separation.to_value(u.rad)) - tolerance / float(UNIT) ** 2
     return Angle(np.arccos(np.clip(cosine, -1, 1)) * u.rad - separation).to(u.arcsec)
+
+
+def covering_tolerance(focal, pixels):
+    """The tolerance with which every true pair agrees, in any field, where each position is off by at most so many pixels.
+
+    This is the law of truth/specs/Sure: off by at most p/256 pixel a direction's numbers are off by at most e, 3 x 10^9 p / F + 3, and 6 x 10^9 e + 3 e^2 covers
+    that. What lens and catalogue are off without any error of measurement comes on top.
+    """
+    moved = 3 * UNIT * math.ceil(PIXEL * pixels) // focal + 3
+    return 6 * UNIT * moved + 3 * moved**2
 
 
 def read_toml(path, before=Settings(), binning=1):

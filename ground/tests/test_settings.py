@@ -114,3 +114,23 @@ def test_files_that_are_not_there(tmp_path, run):
     assert run("settings", tmp_path, tmp_path / "out.toml")[0] == 2
     assert run("settings", tmp_path, tmp_path)[0] == 2
     assert not (tmp_path / "out.toml").exists()
+
+
+@pytest.mark.parametrize(
+    ("pixels", "tolerance"), [(0.05, 2_285_607_167_589_132), (0.1, 4_572_066_656_645_523), (0.2, 9_147_602_608_300_800)]
+)
+def test_the_tolerance_that_covers_an_error(tmp_path, run, pixels, tolerance):
+    """By hand from the law, for a focal length of 400 pixels: 13, 26 and 52 of 256ths move a direction by 380,862, 761,721 and 1,523,440."""
+    (tmp_path / "s.toml").write_text(GOOD.replace("pixels = 64.5", "pixels = 400.0"))
+    status, out, _ = run("settings", tmp_path / "s.toml", tmp_path / "f", "--covers", pixels)
+    assert status == 0 and f"# a tolerance of {tolerance} covers positions off by at most {pixels} pixel" in out
+
+
+def test_a_tolerance_that_no_setting_can_have_is_told(tmp_path, run):
+    status, out, _ = run("settings", _toml(tmp_path), tmp_path / "f", "--covers", 2)
+    assert status == 0 and "which is more than a tolerance may be" in out
+
+
+def _toml(tmp_path):
+    (tmp_path / "s.toml").write_text(GOOD)
+    return tmp_path / "s.toml"
