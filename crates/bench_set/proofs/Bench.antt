@@ -34,7 +34,7 @@ use Rattle.camera_direction.specs.DirectionLaws.{in-range}
 use Rattle.camera_lens.specs.Stated.{settings_lens}
 use Rattle.camera_direction.specs.camera.Camera.{direction_of}
 use Rattle.camera_direction.specs.camera.Laws.{settings-direction}
-use Rattle.bytes.specs.Number.{number_at}
+use Rattle.words.specs.Number.{number_at}
 use Rattle.catalogue.specs.Format.{identity_of, component_of, magnitude_of}
 use Rattle.catalogue.specs.Rule.{direction_ok, magnitude_ok, identity_rises, record_ok}
 use Rattle.catalogue.specs.Check as catalogue

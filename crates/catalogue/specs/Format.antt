@@ -2,7 +2,7 @@
 -- one, in two's complement. Nothing stands before the first record.
 -- Assumes nothing.
 use Rattle.std.specs.Prelude.{List, ℕ, ◌+◌, ◌*◌, ◌/◌, ℤ, length}
-use Rattle.bytes.specs.Number.{number_at}
+use Rattle.words.specs.Number.{number_at}
 use Rattle.numbers.specs.TwosComplement.{signed32_of}
 
 -- how many bytes a record has

@@ -10,7 +10,7 @@ pub(crate) fn identity(bytes: &[u8], i: usize) -> u32
     requires { record_size * i + record_size ≤ length bytes.now }
     ensures { result ≡ identity_of bytes.now i }
 {
-    bytes::u32_at(bytes, RECORD_SIZE * i)
+    words::u32_at(bytes, RECORD_SIZE * i)
 }
 
 // Component 0, 1 or 2 of record i: x, y or z.
@@ -18,7 +18,7 @@ pub(crate) fn component(bytes: &[u8], i: usize, axis: usize) -> i32
     requires { (record_size * i + record_size ≤ length bytes.now) × (axis < 3) }
     ensures { result ≡ component_of bytes.now i axis }
 {
-    signed_32(bytes::u32_at(bytes, RECORD_SIZE * i + (4 + 4 * axis)))
+    signed_32(words::u32_at(bytes, RECORD_SIZE * i + (4 + 4 * axis)))
 }
 
 // The magnitude of record i, in thousandths.
@@ -26,5 +26,5 @@ pub(crate) fn magnitude(bytes: &[u8], i: usize) -> i32
     requires { record_size * i + record_size ≤ length bytes.now }
     ensures { result ≡ magnitude_of bytes.now i }
 {
-    signed_32(bytes::u32_at(bytes, RECORD_SIZE * i + 16))
+    signed_32(words::u32_at(bytes, RECORD_SIZE * i + 16))
 }

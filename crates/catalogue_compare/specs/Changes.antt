@@ -3,8 +3,8 @@
 use Rattle.std.specs.Prelude.{Bool, cond, not, List, [], ◌∷◌, ◌++◌, ℕ, ◌+◌, ◌*◌, ◌-◌, ◌/◌, eqb, ltb}
 use Rattle.lists.specs.First.{first as first_where}
 use Rattle.lists.specs.Order.{ordered}
-use Rattle.bytes.specs.Number.{number_at}
-use Rattle.bytes.specs.Bytes.{bytes_of}
+use Rattle.words.specs.Number.{number_at}
+use Rattle.words.specs.Bytes.{bytes_of}
 use Rattle.catalogue.specs.Format.{record_size, records_in, identity_of}
 
 -- ---- one identity

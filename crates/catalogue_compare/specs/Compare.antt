@@ -8,7 +8,7 @@ use Rattle.catalogue.specs.Check as catalogue
 use Rattle.refusal.specs.declared.Counted.{Counted}
 use Rattle.refusal.specs.Counted.{counted_of}
 use Rattle.catalogue_compare.specs.Changes.{listed, changes_of}
-use Rattle.bytes.specs.Front.{at_front}
+use Rattle.words.specs.Front.{at_front}
 
 -- a room of so many bytes is shorter than the list
 abbrev pub room_short : List ℕ → List ℕ → ℕ → Bool

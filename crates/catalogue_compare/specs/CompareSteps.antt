@@ -18,7 +18,7 @@ use Rattle.catalogue.specs.Valid.{Valid}
 use Rattle.refusal.specs.declared.Counted.TheVariants.{Count}
 use Rattle.catalogue_compare.specs.Changes.{listed, changes_of}
 use Rattle.catalogue_compare.specs.Encoded.{changes-length}
-use Rattle.bytes.specs.Front.{at_front}
+use Rattle.words.specs.Front.{at_front}
 use Rattle.catalogue_compare.specs.Compare.{room_short, catalogues_refused, refusals_of, compared_of, room_after, answer_for}
 
 module _ (first second : List ℕ) where

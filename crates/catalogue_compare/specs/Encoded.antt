@@ -4,8 +4,8 @@ use Rattle.std.proofs.Math.Path.{refl}
 use mathlib.Core.List.{List, [], ◌∷◌, ◌++◌, append_assoc}
 use Rattle.std.proofs.Common.{arith}
 use Rattle.std.proofs.Math.ListN.{length-append}
-use Rattle.bytes.specs.Bytes.{bytes_of}
-use Rattle.bytes.specs.BytesLaws.{bytes-length}
+use Rattle.words.specs.Bytes.{bytes_of}
+use Rattle.words.specs.BytesLaws.{bytes-length}
 use Rattle.catalogue_compare.specs.Changes.{kind_of, listed, record_of, encoded, changes_of}
 
 pub record-length : (identity kind : ℕ) → length (record_of identity kind) ≡ 8

@@ -7,10 +7,10 @@ use Rattle.std.proofs.Math.Decide.{dec_lt, ℕ_discrete}
 use native.Mathlib.Omega.{arith}
 use Rattle.std.proofs.lemmas.Bool.{eqb-false, not-true}
 use Rattle.lists.specs.Contradiction.{contradiction}
-use Rattle.bytes.specs.Number.{number_at}
-use Rattle.bytes.specs.NumberLaws.{number-join}
-use Rattle.bytes.specs.Bytes.{bytes_of}
-use Rattle.bytes.specs.BytesLaws.{write-back}
+use Rattle.words.specs.Number.{number_at}
+use Rattle.words.specs.NumberLaws.{number-join}
+use Rattle.words.specs.Bytes.{bytes_of}
+use Rattle.words.specs.BytesLaws.{write-back}
 use Rattle.catalogue.specs.Format.{record_size, records_in, identity_of}
 use Rattle.catalogue.specs.Valid.{Valid}
 use Rattle.catalogue_compare.specs.Changes.{place_of, has, fields, field_of, differ, kind_of, listed, changes_of}

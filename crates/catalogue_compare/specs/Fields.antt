@@ -5,7 +5,7 @@ use Rattle.std.proofs.Math.Decide.{dec_lt}
 use Rattle.std.specs.Int.{w32}
 use mir.ValLaws.{of_z-to_z}
 use Rattle.numbers.specs.TwosComplement.{half32, signed32_of, signed_low, signed_high}
-use Rattle.bytes.specs.NumberLaws.{number-most}
+use Rattle.words.specs.NumberLaws.{number-most}
 use Rattle.catalogue.specs.Format.{record_size, component_of, magnitude_of}
 use Rattle.catalogue_compare.specs.Changes.{fields, field_of}
 use Rattle.catalogue_compare.specs.DifferLaws.{Other}

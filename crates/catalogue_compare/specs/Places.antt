@@ -5,7 +5,7 @@ use Rattle.std.proofs.Math.Nat.{le_refl}
 use Rattle.std.proofs.Common.{lt_irrefl, arith}
 use borrow.Author.Tests.{lt-ltb, le-ltb, eq-eqb, ne_eqb}
 use Rattle.lists.specs.First.{first_of}
-use Rattle.bytes.specs.NumberLaws.{number-most}
+use Rattle.words.specs.NumberLaws.{number-most}
 use Rattle.catalogue.specs.Format.{record_size, records_in, identity_of}
 use Rattle.catalogue.specs.Valid.{Valid}
 use Rattle.catalogue_compare.specs.Changes.{place_of, has}

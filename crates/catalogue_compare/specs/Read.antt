@@ -5,9 +5,9 @@ use Rattle.std.proofs.Common.{◌∙◌, not-suc-le-zero, arith}
 use mathlib.Core.List.{List, [], ◌∷◌, ◌++◌, append_assoc}
 use Prim.Native.Nat.{ℕ, zero, suc, ◌+◌, ◌*◌, ◌<◌}
 use Rattle.std.proofs.Math.ListN.{length}
-use Rattle.bytes.specs.Number.{number_at}
-use Rattle.bytes.specs.Bytes.{bytes_of}
-use Rattle.bytes.specs.BytesLaws.{bytes-length, number-front, number_behind}
+use Rattle.words.specs.Number.{number_at}
+use Rattle.words.specs.Bytes.{bytes_of}
+use Rattle.words.specs.BytesLaws.{bytes-length, number-front, number_behind}
 use Rattle.catalogue_compare.specs.Changes.{record_of, encoded}
 use Rattle.catalogue_compare.specs.Encoded.{record-length}
 

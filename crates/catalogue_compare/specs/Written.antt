@@ -6,9 +6,9 @@ use mathlib.Core.List.{List, [], ◌∷◌, ◌++◌, append-nil}
 use Rattle.std.proofs.Math.ListN.{length}
 use Rattle.std.proofs.lemmas.List.Edits.{sets}
 use Rattle.lists.specs.Order.{pick}
-use Rattle.bytes.specs.Bytes.{bytes_of}
-use Rattle.bytes.specs.BytesLaws.{bytes-join, put-join}
-use Rattle.bytes.specs.Front.{at_front, front-more}
+use Rattle.words.specs.Bytes.{bytes_of}
+use Rattle.words.specs.BytesLaws.{bytes-join, put-join}
+use Rattle.words.specs.Front.{at_front, front-more}
 use Rattle.catalogue.specs.Format.{records_in}
 use Rattle.catalogue_compare.specs.declared.step.Step.{Step}
 use Rattle.catalogue_compare.specs.Changes.{kind_of, listed, record_of, encoded, changes_of}

@@ -31,7 +31,7 @@ fn differ(first: &[u8], i: usize, second: &[u8], j: usize) -> bool
     let mut k: usize = 0;
     while k < FIELDS {
         let field = 4 + 4 * k;
-        if bytes::u32_at(first, one + field) != bytes::u32_at(second, other + field) {
+        if words::u32_at(first, one + field) != words::u32_at(second, other + field) {
             return true;
         }
         k += 1;

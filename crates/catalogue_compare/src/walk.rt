@@ -2,7 +2,7 @@
 // least, so there are at most as many as both catalogues have records.
 ghost use Rattle.std.specs.Prelude.{◌≡◌, ◌+◌, ◌*◌, ◌≤◌, length};
 ghost use Rattle.std.proofs.lemmas.List.Edits.{sets};
-ghost use Rattle.bytes.specs.Front.{at_front};
+ghost use Rattle.words.specs.Front.{at_front};
 ghost use Rattle.catalogue.specs.Format.{records_in};
 ghost use Rattle.catalogue.specs.Valid.{Valid};
 ghost use Rattle.catalogue_compare.specs.Changes.{listed, changes_of};
@@ -49,8 +49,8 @@ fn put(room: &mut [u8], at: usize, s: Step) -> usize
         return at;
     }
     let from = CHANGE_SIZE * at;
-    bytes::put_u32(room, from, s.identity);
-    bytes::put_u32(room, from + 4, s.kind);
+    words::put_u32(room, from, s.identity);
+    words::put_u32(room, from + 4, s.kind);
     at + 1
 }
 

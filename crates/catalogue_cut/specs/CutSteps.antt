@@ -14,7 +14,7 @@ use Rattle.refusal.specs.AnswerLaws.{answer_by}
 use Rattle.refusal.specs.Counted.{count_answer}
 use Rattle.refusal.specs.CountedLaws.{count_by}
 use Rattle.lists.specs.Below.{below-same}
-use Rattle.bytes.specs.Front.{at_front}
+use Rattle.words.specs.Front.{at_front}
 use Rattle.catalogue.specs.Check as catalogue
 use Rattle.catalogue.specs.CheckLaws.{valid-accepted}
 use Rattle.catalogue.specs.Format.{record_size, records_in}

@@ -7,8 +7,8 @@ use native.Mathlib.Omega.{arith}
 use Rattle.lists.specs.NumberLaws.{number-most}
 use Rattle.lists.specs.Below.{Place}
 use Rattle.numbers.specs.Within.{Within}
-use Rattle.bytes.specs.Number.{number_at}
-use Rattle.bytes.specs.NumberLaws.{number_same}
+use Rattle.words.specs.Number.{number_at}
+use Rattle.words.specs.NumberLaws.{number_same}
 use Rattle.numbers.specs.TwosComplement.{signed32_of}
 use Rattle.catalogue.specs.Format.{record_size, records_in, identity_of, component_of, magnitude_of}
 use Rattle.catalogue.specs.Rule.{largest, square_sum, slack, squares, brightest, faintest}

@@ -12,7 +12,7 @@ use Rattle.lists.specs.Number.{one}
 use Rattle.lists.specs.NumberLaws.{one-most}
 use Rattle.lists.specs.Order.{pick, ordered}
 use Rattle.lists.specs.Below.{below_next, passing}
-use Rattle.bytes.specs.Front.{at_front, front-more, front-behind}
+use Rattle.words.specs.Front.{at_front, front-more, front-behind}
 use Rattle.catalogue.specs.Format.{record_size, records_in}
 use Rattle.catalogue_cut.specs.Flight.{record_at, records_at, freed}
 use Rattle.catalogue_cut.specs.Records.{Inside, record-length, record-byte, records-append, records-length}

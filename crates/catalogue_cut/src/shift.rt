@@ -3,7 +3,7 @@ ghost use Rattle.std.specs.Prelude.{[], ◌++◌, ◌≡◌, ◌+◌, ◌*◌, �
 ghost use Rattle.std.proofs.lemmas.List.Edits.{sets};
 ghost use Rattle.lists.specs.Number.{one};
 ghost use Rattle.lists.specs.Order.{pick};
-ghost use Rattle.bytes.specs.Front.{at_front};
+ghost use Rattle.words.specs.Front.{at_front};
 ghost use Rattle.catalogue.specs.Format.{record_size, records_in};
 ghost use Rattle.catalogue_cut.specs.Flight.{record_at, records_at, freed};
 ghost use Rattle.catalogue_cut.specs.Shifted.{marked};

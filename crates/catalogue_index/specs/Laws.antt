@@ -9,8 +9,8 @@ use native.Mathlib.Omega.{arith}
 use Rattle.std.specs.Int.{w64}
 use Rattle.lists.specs.Laws.{count}
 use Rattle.vectors.specs.Triples.{triples, Listed, pair_dot}
-use Rattle.bytes.specs.Bytes.{bytes_of}
-use Rattle.bytes.specs.BytesLaws.{bytes-join}
+use Rattle.words.specs.Bytes.{bytes_of}
+use Rattle.words.specs.BytesLaws.{bytes-join}
 use Rattle.catalogue_index.specs.records.Format.{turned, key_from, record_of}
 use Rattle.catalogue_index.specs.records.OrderLaws.{sorted-same}
 use Rattle.catalogue_index.specs.records.Rising.{Rising, within-one, within-length}

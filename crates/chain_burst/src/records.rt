@@ -29,9 +29,9 @@ fn put_row(room: &mut [u8], at: usize, row: Vec3)
     requires { at + 24 ≤ length room.old }
     ensures { room.new ≡ sets room.old at (signed_bytes (row.x ∷ (row.y ∷ (row.z ∷ [])))) }
 {
-    bytes::put_u64(room, at, bits(row.x));
-    bytes::put_u64(room, at + 8, bits(row.y));
-    bytes::put_u64(room, at + 16, bits(row.z));
+    words::put_u64(room, at, bits(row.x));
+    words::put_u64(room, at + 8, bits(row.y));
+    words::put_u64(room, at + 16, bits(row.z));
 }
 
 // Writes the parts of a record from a place on.
@@ -42,8 +42,8 @@ fn put_parts(room: &mut [u8], at: usize, number: u32, place: u32, matrix: Matrix
     let row0 = matrix.row0;
     let row1 = matrix.row1;
     let row2 = matrix.row2;
-    bytes::put_u32(room, at, number);
-    bytes::put_u32(room, at + 4, place);
+    words::put_u32(room, at, number);
+    words::put_u32(room, at + 4, place);
     put_row(room, at + 8, row0);
     put_row(room, at + 32, row1);
     put_row(room, at + 56, row2);

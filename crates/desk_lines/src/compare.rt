@@ -45,8 +45,8 @@ fn lines(room: &mut [u8], list: &[u8]) -> usize
         next = line(
             room,
             next,
-            bytes::u32_at(list, at),
-            bytes::u32_at(list, at + 4),
+            words::u32_at(list, at),
+            words::u32_at(list, at + 4),
         );
         k += 1;
     }

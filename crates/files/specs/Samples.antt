@@ -4,7 +4,7 @@ use Rattle.std.proofs.Math.Bool.{and-eq-true_iff}
 use Rattle.std.proofs.Common.{ap, ◌∙◌, leb-true, eqb-true, le-leb, arith, add-one, length-append, take_at}
 use Rattle.std.proofs.lemmas.Bool.{lt-leb}
 use Rattle.std.proofs.lemmas.List.{length-replicate}
-use Rattle.bytes.specs.Number.{number_at}
+use Rattle.words.specs.Number.{number_at}
 
 -- how many samples a file of this length holds: none where the length is another, or where there are too many
 unfoldable pub sample_count : ℕ → ℕ → ℕ → ℕ

@@ -8,7 +8,7 @@ use Rattle.camera_lens.specs.Stated.{settings_lens}
 use Rattle.chain.specs.declared.Settings.{Settings}
 use Rattle.files.specs.declared.Reading.{Reading}
 use Rattle.files.specs.declared.Reading.TheVariants.{Refused, Read}
-use Rattle.bytes.specs.Number.{number_at}
+use Rattle.words.specs.Number.{number_at}
 
 unfoldable pub settings_of : List ℕ → Settings
 settings_of bytes =

@@ -1,8 +1,8 @@
 -- The file's focal length is the lens's: the pixel form loses nothing, so that F is what it was as a whole number. Assumes nothing.
 use Rattle.std.specs.Prelude.{List, ◌⊎◌, ◌≡◌, ℕ, ◌^◌, ◌≤◌, ◌<◌, pos, length, get_or}
 use Rattle.std.proofs.Common.{lt_of_lt_of_le, eq-eqb, ne_eqb, lit≤}
-use Rattle.bytes.specs.Number.{number_at}
-use Rattle.bytes.specs.NumberLaws.{number-most}
+use Rattle.words.specs.Number.{number_at}
+use Rattle.words.specs.NumberLaws.{number-most}
 use Rattle.camera_lens.specs.declared.Focal.TheVariants.{Whole}
 use Rattle.camera_lens.specs.Lens.{focal_of, out_of_range}
 use Rattle.camera_lens.specs.StatedLaws.{settings-whole, settings-back, settings-refused}

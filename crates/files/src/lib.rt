@@ -31,14 +31,14 @@ pub fn read_settings(bytes: &[u8]) -> Reading
         });
     }
     Reading::Read(Settings {
-        width: bytes::u16_at(bytes, 0) as usize,
-        height: bytes::u16_at(bytes, 2) as usize,
-        threshold: bytes::u16_at(bytes, 4) as usize,
-        needed: bytes::u16_at(bytes, 6) as usize,
-        cx: bytes::u32_at(bytes, 8) as i64,
-        cy: bytes::u32_at(bytes, 12) as i64,
-        lens: camera_lens::of_settings(bytes::u32_at(bytes, 16)),
-        tolerance: bytes::u64_at(bytes, 24),
+        width: words::u16_at(bytes, 0) as usize,
+        height: words::u16_at(bytes, 2) as usize,
+        threshold: words::u16_at(bytes, 4) as usize,
+        needed: words::u16_at(bytes, 6) as usize,
+        cx: words::u32_at(bytes, 8) as i64,
+        cy: words::u32_at(bytes, 12) as i64,
+        lens: camera_lens::of_settings(words::u32_at(bytes, 16)),
+        tolerance: words::u64_at(bytes, 24),
     })
 }
 
@@ -74,7 +74,7 @@ pub fn read_samples(bytes: &[u8], width: usize, height: usize, room: &mut [u16])
     }
     let mut i: usize = 0;
     while i < count {
-        room[i] = bytes::u16_at(bytes, 2 * i);
+        room[i] = words::u16_at(bytes, 2 * i);
         i += 1;
     }
     count

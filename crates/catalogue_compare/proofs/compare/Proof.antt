@@ -12,7 +12,7 @@ use Rattle.refusal.specs.Counted.{counted_of, count_answer}
 use Rattle.refusal.specs.declared.Counted.{Counted}
 use Rattle.refusal.specs.declared.Counted.TheVariants.{Count}
 use Rattle.catalogue_compare.specs.Changes.{listed, changes_of}
-use Rattle.bytes.specs.Front.{at_front}
+use Rattle.words.specs.Front.{at_front}
 use Rattle.catalogue_compare.specs.Compare.{catalogues_refused, refusals_of, compared_of, room_after, answer_for}
 use Rattle.catalogue_compare.specs.CompareSteps.{both-valid, compared, answers, refused, too_short, long-enough, room_after}
 use borrow.Author.Rules.{rules}

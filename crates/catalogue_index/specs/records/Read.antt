@@ -4,10 +4,10 @@ use Rattle.std.proofs.Common.{sym, ap, ◌∙◌, append-nil, append_assoc, not-
 use Rattle.std.proofs.Math.Decide.{ℕ_discrete}
 use Rattle.std.proofs.Math.ListN.{get_or-append}
 use Rattle.std.proofs.lemmas.List.{get_or_at}
-use Rattle.bytes.specs.Number.{number_at}
-use Rattle.bytes.specs.NumberLaws.{number-most}
-use Rattle.bytes.specs.Bytes.{bytes_of}
-use Rattle.bytes.specs.BytesLaws.{write-back}
+use Rattle.words.specs.Number.{number_at}
+use Rattle.words.specs.NumberLaws.{number-most}
+use Rattle.words.specs.Bytes.{bytes_of}
+use Rattle.words.specs.BytesLaws.{write-back}
 use Rattle.catalogue_index.specs.records.Format.{turned, high_at, low_at, key_from, key_at, record_of, encoded}
 use Rattle.catalogue_index.specs.records.FormatLaws.{turned-back}
 

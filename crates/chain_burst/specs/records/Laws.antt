@@ -8,9 +8,9 @@ use Rattle.std.specs.Int.Signed.{lt_z}
 use mir.Syntax.{w64}
 use mir.Val.{to_z, of_z}
 use mir.ValLaws.{to_z-of_z, of_z_fits}
-use Rattle.bytes.specs.Number.{number_at}
-use Rattle.bytes.specs.Bytes.{bytes_of}
-use Rattle.bytes.specs.BytesLaws.{bytes-length, number-front, number_behind, sets-append}
+use Rattle.words.specs.Number.{number_at}
+use Rattle.words.specs.Bytes.{bytes_of}
+use Rattle.words.specs.BytesLaws.{bytes-length, number-front, number_behind, sets-append}
 use Rattle.lists.specs.Contradiction.{contradiction}
 use Rattle.vectors.specs.declared.Vec3.{Vec3}
 use Rattle.attitude.specs.declared.Matrix.{Matrix}

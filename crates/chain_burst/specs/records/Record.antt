@@ -3,8 +3,8 @@
 use Rattle.std.specs.Prelude.{List, [], ◌∷◌, ◌++◌, ℕ, ◌+◌, ◌*◌, ◌<◌, ℤ, pos}
 use Rattle.std.specs.Int.{w64}
 use Rattle.std.proofs.Common.{SFits, to_z, of_z}
-use Rattle.bytes.specs.Number.{number_at}
-use Rattle.bytes.specs.Bytes.{bytes_of}
+use Rattle.words.specs.Number.{number_at}
+use Rattle.words.specs.Bytes.{bytes_of}
 use Rattle.refusal.specs.declared.Outcome.{Outcome}
 use Rattle.refusal.specs.declared.Outcome.TheVariants.{Accepted, Refused}
 use Rattle.vectors.specs.declared.Vec3.{Vec3}

@@ -7,7 +7,7 @@ use native.Mathlib.Numerals.{add-one}
 use native.Mathlib.Omega.{arith}
 use lib.ListN.{length, drop, set, get_or, length-set}
 use lib.Seq.{drop-cons, set_at, append_snoc}
-use Rattle.bytes.specs.Number.{number_at}
+use Rattle.words.specs.Number.{number_at}
 use Rattle.files.specs.Samples.{sample_count, taken_into, taken-whole, taken_none, samples_of, samples-next, samples-length, count_fits}
 use Rattle.files.proofs.read_samples.Statement.{statement}
 use Rattle.files.proofs.read_samples.Tie as tie

@@ -11,7 +11,7 @@ use mir.Val.{to_z}
 use mir.ValLaws.{to_z_pos}
 use lib.ListN.{length}
 use Rattle.camera_lens.specs.Stated.{settings_lens}
-use Rattle.bytes.specs.Number.{number_at}
+use Rattle.words.specs.Number.{number_at}
 use Rattle.files.specs.Settings.{settings_of, reading_of, reading_answer}
 use Rattle.files.specs.SettingsLaws.{read_told, length-told}
 use Rattle.files.specs.declared.Reading.{Reading}

@@ -5,7 +5,7 @@ use Prim.Native.Nat.{ℕ, ◌+◌, ◌*◌, ◌≤◌}
 use native.Mathlib.Omega.{arith}
 use lib.ListN.{length}
 use lib.Seq.{sets, length-sets}
-use Rattle.bytes.specs.Bytes.{bytes_of}
+use Rattle.words.specs.Bytes.{bytes_of}
 use Rattle.catalogue_compare.specs.declared.step.Step.{Step}
 use Rattle.catalogue_compare.specs.Walk.{told, told_none, told-one}
 use Rattle.catalogue_compare.specs.Written.{bytes-none, bytes_one, parts-written}

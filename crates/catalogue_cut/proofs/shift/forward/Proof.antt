@@ -5,7 +5,7 @@ use Prim.Native.Nat.{ℕ, ◌-◌, ◌≤◌, ◌<◌}
 use native.Mathlib.Omega.{arith}
 use borrow.Author.Rules.{rules}
 use lib.ListN.{length}
-use Rattle.bytes.specs.Front.{at_front}
+use Rattle.words.specs.Front.{at_front}
 use Rattle.catalogue.specs.Format.{records_in}
 use Rattle.catalogue_cut.specs.Flight.{records_at}
 use Rattle.catalogue_cut.specs.Shifted.{marked, Moved, moved-start, moved-next}

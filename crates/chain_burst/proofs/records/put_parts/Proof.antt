@@ -3,7 +3,7 @@ use mathlib.Core.List.{List}
 use mathlib.Core.Path.{ap, ◌∙◌}
 use Prim.Native.Nat.{ℕ, ◌+◌}
 use lib.Seq.{sets}
-use Rattle.bytes.specs.Bytes.{bytes_of}
+use Rattle.words.specs.Bytes.{bytes_of}
 use Rattle.chain_burst.specs.records.Record.{signed_bytes}
 use Rattle.chain_burst.specs.records.Laws.{row_of, parts-stored}
 use borrow.Author.Rules.{rules}

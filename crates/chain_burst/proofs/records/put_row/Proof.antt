@@ -8,7 +8,7 @@ use lib.Signed.{mag}
 use mir.Syntax.{w64}
 use mir.Val.{hbits, to_z, of_z}
 use Rattle.numbers.specs.Num.{held, back}
-use Rattle.bytes.specs.Bytes.{bytes_of}
+use Rattle.words.specs.Bytes.{bytes_of}
 use Rattle.chain_burst.specs.records.Laws.{row-stored}
 use borrow.Author.Rules.{rules}
 use Rattle.chain_burst.proofs.records.put_row.Statement.{statement}

@@ -2,7 +2,7 @@
 use Rattle.std.specs.Prelude.{List, ◌≡◌, refl, ℕ, zero, suc, ◌+◌, ◌*◌, ◌^◌, ◌≤◌, ◌<◌, get_or}
 use Rattle.std.proofs.Common.{add-zero, add-suc, mul_assoc, one-mul, arith}
 use Rattle.std.proofs.Math.Nat.{pow-succ'}
-use Rattle.bytes.specs.Number.{number_at}
+use Rattle.words.specs.Number.{number_at}
 
 -- one byte
 pub number-one : (bytes : List ℕ) (at : ℕ) → number_at bytes at 1 ≡ get_or bytes at 0

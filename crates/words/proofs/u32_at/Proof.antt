@@ -1,9 +1,9 @@
--- `bytes::u32_at` meets its contract: the numbers of its halves joined. Assumes nothing.
+-- `words::u32_at` meets its contract: the numbers of its halves joined. Assumes nothing.
 use native.Mathlib.Omega.{arith}
-use Rattle.bytes.specs.NumberLaws.{number-join}
+use Rattle.words.specs.NumberLaws.{number-join}
 use borrow.Author.Rules.{rules}
-use Rattle.bytes.proofs.u32_at.Statement.{statement}
-use Rattle.bytes.proofs.u32_at.Tie as tie
+use Rattle.words.proofs.u32_at.Statement.{statement}
+use Rattle.words.proofs.u32_at.Tie as tie
 
 u16-at-requires : tie.Need-u16-at-requires
 u16-at-requires c κs = search rules

@@ -5,9 +5,9 @@ use Rattle.std.proofs.Math.Nat.{pow-succ'}
 use Rattle.std.proofs.Math.ListN.{get_or-append}
 use Rattle.std.proofs.lemmas.List.Edits.{sets}
 use Rattle.std.proofs.lemmas.List.{get_or_at}
-use Rattle.bytes.specs.Number.{number_at}
-use Rattle.bytes.specs.NumberLaws.{number_same}
-use Rattle.bytes.specs.Bytes.{bytes_of}
+use Rattle.words.specs.Number.{number_at}
+use Rattle.words.specs.NumberLaws.{number_same}
+use Rattle.words.specs.Bytes.{bytes_of}
 
 pub bytes-length : (n v : ℕ) → length (bytes_of n v) ≡ n
 unfolding bytes_of

@@ -1,11 +1,11 @@
--- `bytes::put_u16` meets its contract: two stores, one behind the other. Assumes nothing.
+-- `words::put_u16` meets its contract: two stores, one behind the other. Assumes nothing.
 use native.Mathlib.Numerals.{unary_clauses}
 use native.Mathlib.Omega.{arith}
 use lib.ListN.{length-set}
 use borrow.Author.Rules.{rules}
-use Rattle.bytes.specs.Bytes.{bytes_of}
-use Rattle.bytes.proofs.put_u16.Statement.{statement}
-use Rattle.bytes.proofs.put_u16.Tie as tie
+use Rattle.words.specs.Bytes.{bytes_of}
+use Rattle.words.proofs.put_u16.Statement.{statement}
+use Rattle.words.proofs.put_u16.Tie as tie
 
 cast-room : tie.Need-overflow-cast-room
 cast-room c = search rules

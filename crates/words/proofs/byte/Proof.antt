@@ -1,9 +1,9 @@
--- `bytes::byte` meets its contract: an element of the slice is a byte. Assumes nothing.
+-- `words::byte` meets its contract: an element of the slice is a byte. Assumes nothing.
 use borrow.Author.Rules.{rules}
 use mathlib.Core.Path.{refl}
 use native.Mathlib.Omega.{arith}
-use Rattle.bytes.proofs.byte.Statement.{statement}
-use Rattle.bytes.proofs.byte.Tie as tie
+use Rattle.words.proofs.byte.Statement.{statement}
+use Rattle.words.proofs.byte.Tie as tie
 
 shared-slice-read-result : tie.Need-shared-slice-read-result
 shared-slice-read-result c = search rules

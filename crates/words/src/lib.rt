@@ -1,8 +1,8 @@
 // Unsigned numbers of 2, 4 and 8 bytes in a slice of bytes, high byte first: how they are read and written.
 ghost use Rattle.std.specs.Prelude.{◌≡◌, ◌+◌, ◌<◌, ◌≤◌, length, get_or};
 ghost use Rattle.std.proofs.lemmas.List.Edits.{sets};
-ghost use Rattle.bytes.specs.Number.{number_at};
-ghost use Rattle.bytes.specs.Bytes.{bytes_of};
+ghost use Rattle.words.specs.Number.{number_at};
+ghost use Rattle.words.specs.Bytes.{bytes_of};
 
 // The byte at a place, as a wider number.
 fn byte(bytes: &[u8], at: usize) -> u16

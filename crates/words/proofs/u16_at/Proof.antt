@@ -1,10 +1,10 @@
--- `bytes::u16_at` meets its contract: two bytes joined. Assumes nothing.
+-- `words::u16_at` meets its contract: two bytes joined. Assumes nothing.
 use native.Mathlib.Omega.{arith}
 use Prim.Native.Nat.{◌+◌}
-use Rattle.bytes.specs.NumberLaws.{number-one, number-join}
+use Rattle.words.specs.NumberLaws.{number-one, number-join}
 use borrow.Author.Rules.{rules}
-use Rattle.bytes.proofs.u16_at.Statement.{statement}
-use Rattle.bytes.proofs.u16_at.Tie as tie
+use Rattle.words.proofs.u16_at.Statement.{statement}
+use Rattle.words.proofs.u16_at.Tie as tie
 
 byte-requires : tie.Need-byte-requires
 byte-requires c κs = search rules

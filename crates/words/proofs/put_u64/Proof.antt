@@ -1,15 +1,15 @@
--- `bytes::put_u64` meets its contract: the halves of a number written one behind the other. Assumes nothing.
+-- `words::put_u64` meets its contract: the halves of a number written one behind the other. Assumes nothing.
 use mathlib.Core.List.{List}
 use mathlib.Core.Path.{ap, ◌∙◌}
 use Prim.Native.Nat.{ℕ, ◌+◌, ◌/◌, ◌%◌}
 use native.Mathlib.Nat.{mod-lt, div-add-mod}
 use lib.Dec.{lit<}
 use lib.Seq.{sets}
-use Rattle.bytes.specs.Bytes.{bytes_of}
-use Rattle.bytes.specs.BytesLaws.{put-join}
+use Rattle.words.specs.Bytes.{bytes_of}
+use Rattle.words.specs.BytesLaws.{put-join}
 use borrow.Author.Rules.{rules}
-use Rattle.bytes.proofs.put_u64.Statement.{statement}
-use Rattle.bytes.proofs.put_u64.Tie as tie
+use Rattle.words.proofs.put_u64.Statement.{statement}
+use Rattle.words.proofs.put_u64.Tie as tie
 
 cast-put-u32 : tie.Need-overflow-cast-put-u32
 cast-put-u32 c = search rules
