@@ -1,4 +1,6 @@
 // The attitude from two directions and their stars, by TRIAD.
+#![tactic(auto)]
+
 mod entries;
 pub mod orient;
 mod refusals;
@@ -13,14 +15,14 @@ pub use scale::largest;
 use vectors::Vec3;
 
 // The matrix that carries sky to camera, 10^9 standing for 1.
-#[derive(Drop)]
+#[derive(Clone, Copy)]
 pub struct Matrix {
     pub row0: Vec3,
     pub row1: Vec3,
     pub row2: Vec3,
 }
 
-#[derive(Drop)]
+#[derive(Clone, Copy)]
 pub enum Attitude {
     Refused(Refusal),
     Found(Matrix),

@@ -11,7 +11,7 @@ use vectors::Vec3;
 pub(crate) const ONE: i64 = 1_000_000_000;
 
 // t1 along the first direction, t2 along the cross product of the two, t3 across both.
-#[derive(Drop)]
+#[derive(Clone, Copy)]
 pub struct Axes {
     pub t1: Vec3,
     pub t2: Vec3,

@@ -1,4 +1,6 @@
 // What the gimbal computer is sent: the matrix as direction cosines, and a target direction as the camera sees it.
+#![tactic(auto)]
+
 mod entries;
 mod refusals;
 
@@ -11,7 +13,7 @@ use attitude::Matrix;
 use refusal::{Outcome, Refusal};
 
 // Three floats: a row of direction cosines, or a target direction.
-#[derive(Drop)]
+#[derive(Clone, Copy)]
 pub struct Triple {
     pub x: f64,
     pub y: f64,
@@ -19,14 +21,14 @@ pub struct Triple {
 }
 
 // The rows of the matrix, 1 standing for 10^9.
-#[derive(Drop)]
+#[derive(Clone, Copy)]
 pub struct Cosines {
     pub row0: Triple,
     pub row1: Triple,
     pub row2: Triple,
 }
 
-#[derive(Drop)]
+#[derive(Clone, Copy)]
 pub enum Gimbal {
     Refused(Refusal),
     Rows(Cosines),

@@ -1,4 +1,6 @@
 // The functions that C may call, a module for each area. Each hands its answer over as numbers (`c_numbers`), and adds no rule of its own.
+#![tactic(auto)]
+
 pub mod burst;
 pub mod by_index;
 pub mod camera;

@@ -1,5 +1,7 @@
 // What a call of the C interface hands over. An answer is 64 signed numbers in a lent room: the refusal's number and place, 0 and 0 where the call is accepted,
 // then the answer's own numbers, then zeros.
+#![tactic(auto)]
+
 ghost use Rattle.std.specs.Prelude.{◌≡◌, [], ◌∷◌, ◌+◌, ◌≤◌, length};
 ghost use Rattle.numbers.specs.TwosComplement.{signed_of};
 ghost use Rattle.c_numbers.specs.Numbers.{

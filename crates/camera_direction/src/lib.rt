@@ -1,4 +1,6 @@
 // Directions: the rule of a direction list, and the direction of a position on the frame.
+#![tactic(auto)]
+
 pub mod camera;
 mod list;
 mod position;
@@ -13,7 +15,7 @@ use refusal::Refusal;
 use vectors::Vec3;
 
 // What a position's direction is, or why it is refused.
-#[derive(Drop)]
+#[derive(Clone, Copy)]
 pub enum Direction {
     Refused(Refusal),
     Found(Vec3),

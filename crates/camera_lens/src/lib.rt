@@ -1,4 +1,6 @@
 // The lens: its focal length in 1/256 pixel, from what its maker states.
+#![tactic(auto)]
+
 mod plate;
 mod range;
 
@@ -9,14 +11,14 @@ ghost use Rattle.camera_lens.specs.Stated.{settings_lens, stated_lens};
 use refusal::Refusal;
 
 // What is stated: focal length in millimetres and pixel pitch in micrometres, or focal length in pixels.
-#[derive(Drop)]
+#[derive(Clone, Copy)]
 pub enum Lens {
     Millimetres(f64, f64),
     Pixels(f64),
 }
 
 // The focal length in 1/256 pixel, a whole number.
-#[derive(Drop)]
+#[derive(Clone, Copy)]
 pub enum Focal {
     Refused(Refusal),
     Whole(i64),

@@ -1,4 +1,6 @@
 // The star catalogue: the check of its bytes, and its stars decoded into numbers, three a star.
+#![tactic(auto)]
+
 mod format;
 mod rule;
 

@@ -1,5 +1,7 @@
 // What changed between two catalogues: a record of 8 bytes for each star that only one of them has, or that both have with different numbers, by rising
 // identity.
+#![tactic(auto)]
+
 mod step;
 mod walk;
 

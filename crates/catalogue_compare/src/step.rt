@@ -13,7 +13,7 @@ const FIELDS: usize = RECORD_SIZE / 4 - 1;
 const NONE: u64 = 4294967296;
 
 // An identity, what the list says of it, and the next record of each catalogue. Kind 0 says that it is not listed.
-#[derive(Drop)]
+#[derive(Clone, Copy)]
 pub struct Step {
     pub identity: u32,
     pub kind: u32,

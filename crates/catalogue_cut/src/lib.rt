@@ -1,4 +1,6 @@
 // A flight catalogue, cut out of a larger one in the same lent buffer: the stars within a limit of magnitude that no other star within it is close to.
+#![tactic(auto)]
+
 pub mod marks;
 mod shift;
 

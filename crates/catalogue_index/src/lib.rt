@@ -1,5 +1,7 @@
 // The index of star pairs: a record of 12 bytes for each pair of stars whose dot product is at least a floor, by rising dot product, then by the
 // two record numbers.
+#![tactic(auto)]
+
 mod fill;
 pub mod key;
 pub mod records;

@@ -1,4 +1,6 @@
 // The whole chain as one call: a frame, a catalogue and settings in, the stars' names and the attitude out.
+#![tactic(auto)]
+
 pub mod admit;
 pub mod locate;
 pub mod rival;
@@ -18,7 +20,7 @@ use vectors::Vec3;
 
 // The camera's settings: the frame's size and threshold, the centre in 1/256 pixel, the lens, how many directions need a star, and how far apart two
 // dot products may be.
-#[derive(Drop)]
+#[derive(Clone, Copy)]
 pub struct Settings {
     pub width: usize,
     pub height: usize,
@@ -32,7 +34,7 @@ pub struct Settings {
 
 // What the chain answers: the frame's list and counts, the star of each listed direction, and the matrix that carries sky to camera. Where the call
 // is refused, all of them are zeros.
-#[derive(Drop)]
+#[derive(Clone, Copy)]
 pub struct Tracked {
     pub outcome: Outcome,
     pub report: Report,

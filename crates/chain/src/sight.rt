@@ -13,7 +13,7 @@ use refusal::Outcome;
 use vectors::Vec3;
 
 // What stands before the ranking. Behind the directions, three numbers each, are zeros.
-#[derive(Drop)]
+#[derive(Clone, Copy)]
 pub struct Sighting {
     pub outcome: Outcome,
     pub report: Report,

@@ -1,4 +1,6 @@
 // A whole burst in one call: each frame of a slice through the chain by itself, and a record of 80 bytes for each.
+#![tactic(auto)]
+
 pub mod records;
 
 ghost use Rattle.std.specs.Prelude.{◌≡◌, ◌++◌, ◌*◌, ◌≤◌, length, drop};

@@ -1,4 +1,6 @@
 // The whole chain with an index of the star pairs: the chain's own steps, but for the ranking, whose votes are taken from the index.
+#![tactic(auto)]
+
 mod admit;
 
 ghost use Rattle.std.specs.Prelude.{◌≡◌};

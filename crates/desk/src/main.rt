@@ -1,5 +1,7 @@
 // The desk: what people on the ground ask of files, one subcommand each. Wrong words get a line on standard error and nothing on standard output, by which
 // the script `mnemathor` tells them from an answer.
+#![tactic(auto)]
+
 ghost use Rattle.io.specs.Counts.{IsPrefixLen};
 
 use catalogue::{MOST_RECORDS, RECORD_SIZE};

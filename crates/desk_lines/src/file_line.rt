@@ -7,7 +7,7 @@ ghost use Rattle.desk_lines.specs.FileLine.{records_line, kept_line, said_line};
 use refusal::Refusal;
 
 // What the desk has of the file.
-#[derive(Drop)]
+#[derive(Clone, Copy)]
 pub struct Made {
     // Whether there is one.
     pub accepted: bool,
@@ -18,7 +18,7 @@ pub struct Made {
 }
 
 // What the line says: a refusal, how many records an index has, or how many of how many a cut keeps.
-#[derive(Drop)]
+#[derive(Clone, Copy)]
 pub enum Said {
     Refused(Refusal),
     Records(usize),

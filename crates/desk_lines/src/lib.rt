@@ -1,4 +1,6 @@
 // What the desk answers to two files and a pixel, as a line in a lent room.
+#![tactic(auto)]
+
 pub mod compare;
 pub mod cut;
 pub mod file_line;

@@ -1,4 +1,6 @@
 // What the program's files hold: the settings and the frame's samples, high byte first.
+#![tactic(auto)]
+
 ghost use Rattle.std.specs.Prelude.{◌≡◌, length, drop, ◌++◌};
 ghost use Rattle.files.specs.Settings.{reading_of, reading_answer, answer_for};
 ghost use Rattle.files.specs.Samples.{sample_count, taken_into, samples_of};
@@ -13,7 +15,7 @@ pub const MOST_SAMPLES: usize = 32000;
 pub const SETTINGS_SIZE: usize = 32;
 
 // What the settings file gives.
-#[derive(Drop)]
+#[derive(Clone, Copy)]
 pub enum Reading {
     Refused(Refusal),
     Read(Settings),

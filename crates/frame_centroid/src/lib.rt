@@ -1,4 +1,6 @@
 // Position and brightness of a star in its 7 x 7 window.
+#![tactic(auto)]
+
 ghost use Rattle.std.specs.Prelude.{◌≡◌, ◌+◌, ◌*◌, ◌<◌, ◌≤◌, length};
 ghost use Rattle.frame_centroid.specs.Border.{border_sum};
 ghost use Rattle.frame_centroid.specs.Centroid.{weight};
@@ -34,7 +36,7 @@ const BORDER: [[usize; 2]; 24] = [
 ];
 
 // Position in 1/256 pixel from the frame's top left, and brightness.
-#[derive(Drop)]
+#[derive(Clone, Copy)]
 pub struct Centroid {
     pub x: u64,
     pub y: u64,
@@ -42,7 +44,7 @@ pub struct Centroid {
 }
 
 // The brightness, and the sums of weight times place along columns and along rows. Places count from 0, so nothing here is signed.
-#[derive(Drop)]
+#[derive(Clone, Copy)]
 pub struct Moments {
     pub brightness: u64,
     pub across: u64,

@@ -1,4 +1,6 @@
 // A frame of samples: the verdict on one pixel, and the list of its stars with three counts.
+#![tactic(auto)]
+
 ghost use Rattle.std.specs.Prelude.{◌≡◌};
 ghost use Rattle.frame_list.specs.Calls.{judgement_of, listing_of, judgement_answer, answer_for};
 
@@ -9,14 +11,14 @@ use refusal::{Outcome, Refusal};
 mod stars; // stars.rt: the list and the counts, pixel by pixel
 pub mod input;
 
-#[derive(Drop)]
+#[derive(Clone, Copy)]
 pub enum Judgement {
     Refused(Refusal),
     Judged(Verdict),
 }
 
 // The first count of stars are the list, and the rest are zeros; measured, edge and lone count the pixels of the whole frame.
-#[derive(Drop)]
+#[derive(Clone, Copy)]
 pub struct Report {
     pub stars: [Centroid; 8],
     pub count: usize,
@@ -26,7 +28,7 @@ pub struct Report {
 }
 
 // An array stands beside an enum and not in it. Where the call is refused the report is zeros.
-#[derive(Drop)]
+#[derive(Clone, Copy)]
 pub struct Listing {
     pub outcome: Outcome,
     pub report: Report,

@@ -1,4 +1,6 @@
 // Why a pixel is not a star: the verdict's kind, with what decided it.
+#![tactic(auto)]
+
 ghost use Rattle.std.specs.Prelude.{◌≡◌, false, ◌*◌, ◌<◌, ◌≤◌, length};
 ghost use Rattle.frame_window.specs.Window.{beaten};
 ghost use Rattle.frame_reason.specs.Side.{first_side, side_number};
@@ -11,7 +13,7 @@ use frame_window::{Beating, neighbours};
 use refusal::{Outcome, Refusal};
 
 // A side of the frame.
-#[derive(Drop)]
+#[derive(Clone, Copy)]
 pub enum Side {
     Left,
     Right,
@@ -19,7 +21,7 @@ pub enum Side {
     Bottom,
 }
 
-#[derive(Drop)]
+#[derive(Clone, Copy)]
 pub enum Reason {
     // its sample and the threshold that it does not reach
     Dark(u16, usize),
@@ -32,14 +34,14 @@ pub enum Reason {
     Measured(Centroid),
 }
 
-#[derive(Drop)]
+#[derive(Clone, Copy)]
 pub enum Explanation {
     Refused(Refusal),
     Given(Reason),
 }
 
 // What a reason names, in numbers: zeros where it names fewer than three.
-#[derive(Drop)]
+#[derive(Clone, Copy)]
 pub struct Values {
     pub first: u64,
     pub second: u64,

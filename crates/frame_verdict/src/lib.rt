@@ -1,4 +1,6 @@
 // The verdict on one pixel: the first that applies of dark, beaten, edge, lone and measured.
+#![tactic(auto)]
+
 ghost use Rattle.std.specs.Prelude.{◌≡◌, false, ◌*◌, ◌<◌, ◌≤◌, length};
 ghost use Rattle.frame_window.specs.Window.{beaten};
 ghost use Rattle.frame_verdict.specs.Verdict.{dark, edge, peak, peak_kind, kind_of, verdict_of, kind_number};
@@ -6,7 +8,7 @@ ghost use Rattle.frame_verdict.specs.Verdict.{dark, edge, peak, peak_kind, kind_
 use frame_centroid::Centroid;
 use frame_window::neighbours;
 
-#[derive(Drop)]
+#[derive(Clone, Copy)]
 pub enum Kind {
     Dark,
     Beaten,
@@ -15,7 +17,7 @@ pub enum Kind {
     Measured(Centroid),
 }
 
-#[derive(Drop)]
+#[derive(Clone, Copy)]
 pub struct Verdict {
     pub row: usize,
     pub column: usize,

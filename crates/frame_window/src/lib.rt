@@ -1,11 +1,13 @@
 // A pixel's window: its samples, and which pixel of the window beats it first.
+#![tactic(auto)]
+
 pub mod neighbours;
 
 ghost use Rattle.std.specs.Prelude.{◌≡◌, ◌+◌, ◌-◌, ◌*◌, ◌<◌, ◌≤◌, min, length};
 ghost use Rattle.frame_window.specs.Window.{at, earlier, beats, beaten, first_beating};
 
 // The row and the column of the first pixel that beats another, if one does.
-#[derive(Drop)]
+#[derive(Clone, Copy)]
 pub enum Beating {
     At(usize, usize),
     Nothing,

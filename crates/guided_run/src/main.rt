@@ -1,5 +1,7 @@
 // A guided run: the frames of run.bin go through the frame's list and the guider, both by the C interface, as in a gimbal computer that keeps the guider's
 // numbers between calls.
+#![tactic(auto)]
+
 use c_interface::{frame, guide};
 use numbers::signed;
 use playback::{print_end, print_numbers, read_wholes, read_words, word};

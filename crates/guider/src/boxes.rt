@@ -57,7 +57,7 @@ fn is_shared(guider: Guider, i: usize, star: Centroid) -> bool
 }
 
 // What one look at the list tells of a box: how many stars lie in it, and the last of them.
-#[derive(Drop)]
+#[derive(Clone, Copy)]
 struct Sight {
     count: usize,
     star: Centroid,

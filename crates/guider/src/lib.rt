@@ -1,5 +1,7 @@
 // The guider: up to four guides, each followed from frame to frame in a box around its last position. Its start, and its frame, which sees a list and no other
 // part of the frame.
+#![tactic(auto)]
+
 ghost use Rattle.std.specs.Prelude.{◌≡◌, true};
 ghost use Rattle.guider_rule.specs.Rule.{guider_ok};
 ghost use Rattle.guider_rule.specs.Answers.{guided_answer, start_answer, frame_answer};

@@ -1,8 +1,10 @@
 // What a guider is, the rule that it keeps, and where its guides are after a frame: structs and theory without code.
+#![tactic(auto)]
+
 use refusal::Outcome;
 
 // A star to follow: its identity, which is a number of a catalogue, and its position in 1/256 pixel.
-#[derive(Drop)]
+#[derive(Clone, Copy)]
 pub struct Sighting {
     pub identity: u32,
     pub x: u64,
@@ -10,7 +12,7 @@ pub struct Sighting {
 }
 
 // A guide: the star's identity, its last position, and how many frames in a row it was missed.
-#[derive(Drop)]
+#[derive(Clone, Copy)]
 pub struct Guide {
     pub identity: u32,
     pub x: u64,
@@ -19,7 +21,7 @@ pub struct Guide {
 }
 
 // Half the side of the boxes in 1/256 pixel, and the guides: the first count of them.
-#[derive(Drop)]
+#[derive(Clone, Copy)]
 pub struct Guider {
     pub half: u64,
     pub count: usize,
@@ -27,7 +29,7 @@ pub struct Guider {
 }
 
 // An array stands beside an enum and not in it.
-#[derive(Drop)]
+#[derive(Clone, Copy)]
 pub struct Guided {
     pub outcome: Outcome,
     pub guider: Guider,

@@ -1,4 +1,6 @@
 // The whole answer to three files, accepted or refused, as bytes in a lent room: the listing of document 01, or the lines about rivals.
+#![tactic(auto)]
+
 mod lines;
 mod rival;
 
@@ -17,7 +19,7 @@ use refusal::{Outcome, Refusal};
 pub const ROOM: usize = 2048;
 
 // What is asked: the listing, or the first rival of the names that it shows.
-#[derive(Drop)]
+#[derive(Clone, Copy)]
 pub enum Asked {
     Listing,
     Rival,

@@ -1,4 +1,6 @@
 // Reads settings.bin, catalogue.bin and frame.bin of the current folder, and writes the listing on standard output.
+#![tactic(auto)]
+
 ghost use Rattle.io.specs.Counts.{IsPrefixLen};
 
 use catalogue::{MOST_RECORDS, RECORD_SIZE};

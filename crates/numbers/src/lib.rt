@@ -1,4 +1,6 @@
 // Whole numbers: the size of a signed number, two's complement, and the root of an unsigned one.
+#![tactic(auto)]
+
 ghost use Rattle.std.specs.Prelude.{◌≡◌, ◌≤◌, ◌<◌, leb, nat_abs, negsuc};
 ghost use Rattle.numbers.specs.Root.{root as root_of};
 ghost use Rattle.numbers.specs.TwosComplement.{half64, signed_of, signed32_of};
@@ -54,7 +56,7 @@ pub fn signed_32(word: u32) -> i32
 const PASSES: u64 = 3;
 
 // A root, and the number of passes through the loop that found it.
-#[derive(Drop)]
+#[derive(Clone, Copy)]
 struct Rooted {
     root: u64,
     passes: u64,

@@ -1,4 +1,6 @@
 // What programs that play recorded calls share: numbers and buffers read from a file, and lines of numbers put out.
+#![tactic(auto)]
+
 mod print; // print.rt: lines of numbers
 mod stream; // stream.rt: numbers and buffers
 

@@ -1,4 +1,6 @@
 // The ranking: one row of record numbers for each direction, by votes, in the lent room.
+#![tactic(auto)]
+
 pub mod refused;
 pub mod row;
 

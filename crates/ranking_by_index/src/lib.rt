@@ -1,4 +1,6 @@
 // The ranking with an index of the star pairs. The index is tested before it votes; a right one changes neither the answer nor the room.
+#![tactic(auto)]
+
 pub mod votes;
 
 ghost use Rattle.std.specs.Prelude.{◌≡◌, ◌++◌, ◌*◌, ◌<◌, ◌≤◌, length, drop};

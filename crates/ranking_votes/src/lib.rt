@@ -1,4 +1,6 @@
 // The votes of the stars for one direction, in 512 counters.
+#![tactic(auto)]
+
 mod near;
 
 ghost use Rattle.std.specs.Prelude.{◌≡◌, ℕ, ◌+◌, ◌<◌, ◌≤◌, pos, get_or, length};

@@ -1,4 +1,6 @@
 // Runs the recorded calls of cases.bin and prints what each hands over.
+#![tactic(auto)]
+
 mod calls;
 mod gimbal;
 mod guiding;

@@ -1,5 +1,7 @@
 // Number and place of a refusal: document 01's table. A later number is one constant here, one in specs/Numbers, its place in both lists, and
 // a row where it is given.
+#![tactic(auto)]
+
 ghost use Rattle.std.specs.Prelude.{◌≡◌};
 ghost use Rattle.refusal.specs.Numbers.{in_order};
 ghost use Rattle.refusal.specs.Table.{refusal_of};
@@ -83,21 +85,21 @@ pub fn numbers_in_order() -> [u32; 23]
     ]
 }
 
-#[derive(Drop)]
+#[derive(Clone, Copy)]
 pub struct Refusal {
     pub number: u32,
     pub place: usize,
 }
 
 // What a call comes to before its work: it may go on, or it is refused.
-#[derive(Drop)]
+#[derive(Clone, Copy)]
 pub enum Outcome {
     Accepted,
     Refused(Refusal),
 }
 
 // What a call that counts gives: its refusal, or how many there are.
-#[derive(Drop)]
+#[derive(Clone, Copy)]
 pub enum Counted {
     Refused(Refusal),
     Count(usize),

@@ -1,4 +1,6 @@
 // The search: which star each direction is, by a ranking that is handed in.
+#![tactic(auto)]
+
 mod lent;
 mod refused;
 
@@ -13,14 +15,14 @@ use refusal::Outcome;
 use search_backtrack::{Answer, Sought};
 
 // Whether a ranking that is handed in names each star once a row, or the place of its first word that does not belong.
-#[derive(Drop)]
+#[derive(Clone, Copy)]
 pub enum RankingTest {
     Good,
     Bad(usize),
 }
 
 // What the search answers: whether the call is accepted, and the words of the assignment, 0 behind the directions and where it is refused.
-#[derive(Drop)]
+#[derive(Clone, Copy)]
 pub struct Identification {
     pub outcome: Outcome,
     pub stars: [u16; 8],

@@ -1,4 +1,6 @@
 // The rule of fit: whether a star may stand at a direction beside the words before it. Another rule changes this crate.
+#![tactic(auto)]
+
 pub mod mirror;
 pub mod span;
 
@@ -11,7 +13,7 @@ ghost use Rattle.search_fit.specs.Fit.{Measured, Tested, NewestOf, Ready, Seen, 
 use vectors::Vec3;
 
 // How many directions and stars there are, how many directions need a star, and how far apart two dot products may be.
-#[derive(Drop)]
+#[derive(Clone, Copy)]
 pub struct Setup {
     pub dirs: usize,
     pub stars: usize,
@@ -21,7 +23,7 @@ pub struct Setup {
 
 // The newest star of the words chosen, with its place in the sky, the dot product of its direction, and the number of words before it. Most
 // stars that may not stand fail beside it, so that it is read once for a look along all stars.
-#[derive(Drop)]
+#[derive(Clone, Copy)]
 pub struct Newest {
     pub before: usize,
     pub star: usize,

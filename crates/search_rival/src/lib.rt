@@ -1,4 +1,6 @@
 // Whether another identification fits: an assignment that gives some direction another star than the search's own answer does.
+#![tactic(auto)]
+
 ghost use Rattle.std.specs.Prelude.{◌≡◌};
 ghost use Rattle.search_fit.specs.Fit.{setup_of};
 ghost use Rattle.search_backtrack.specs.Input.{Input};
@@ -9,7 +11,7 @@ use search_backtrack::{Answer, Sought};
 
 // What the call answers: whether it is accepted, whether our identification has a rival, and the words of the first; they are 0 behind the
 // directions, where ours is alone, and where the call is refused.
-#[derive(Drop)]
+#[derive(Clone, Copy)]
 pub struct Contest {
     pub outcome: Outcome,
     pub rival: bool,

@@ -1,5 +1,7 @@
 // Lines of text as bytes in a lent room: words and numbers in decimal, one behind the other. A place is handed in and the next one comes back, so a line is a
 // run of calls. What does not fit is cut at the room's end. And the way back: a word as a number, with a sign or without.
+#![tactic(auto)]
+
 mod parse;
 mod sign;
 

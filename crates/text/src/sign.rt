@@ -4,7 +4,7 @@ ghost use Rattle.text.specs.Sign.{positive_of, negative_of, parsed_signed_of, nu
 
 use crate::parse::{Parsed, parse_number};
 
-#[derive(Drop)]
+#[derive(Clone, Copy)]
 pub enum Signed {
     Number(i64),
     NoNumber,

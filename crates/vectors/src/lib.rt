@@ -1,4 +1,6 @@
 // Vectors of three signed numbers, by themselves and as triples in a list, and the agreement of two dot products.
+#![tactic(auto)]
+
 pub mod handedness;
 
 ghost use Rattle.std.specs.Prelude.{◌≡◌, ◌+◌, ◌*◌, ◌<◌, ◌≤◌, ℤ, pos, get_or, length};
@@ -7,7 +9,7 @@ ghost use Rattle.vectors.specs.Vectors.{Within3, dot_of, cross_of};
 ghost use Rattle.vectors.specs.Triples.{AllWithin, triple_at, pair_dot};
 ghost use Rattle.vectors.specs.Agree.{agreeing};
 
-#[derive(Drop)]
+#[derive(Clone, Copy)]
 pub struct Vec3 {
     pub x: i64,
     pub y: i64,

@@ -1,4 +1,6 @@
 // Unsigned numbers of 2, 4 and 8 bytes in a slice of bytes, high byte first: how they are read and written.
+#![tactic(auto)]
+
 ghost use Rattle.std.specs.Prelude.{◌≡◌, ◌+◌, ◌<◌, ◌≤◌, length, get_or};
 ghost use Rattle.std.proofs.lemmas.List.Edits.{sets};
 ghost use Rattle.words.specs.Number.{number_at};

@@ -4,7 +4,7 @@ ghost use Rattle.desk_lines.specs.cut.Limit.{limit_for, limit_of, numbers_of, nu
 
 use text::Signed;
 
-#[derive(Drop)]
+#[derive(Clone, Copy)]
 pub enum Limit {
     Number(i32),
     NoNumber,
