@@ -24,57 +24,57 @@ module _ (s : tie.Start) where
   both e = in-terms attitude_answer (sym e) (answers s.args.v1 s.args.v2 s.args.w1 s.args.w2)
 
 -- what the tests leave
-module _ (c : tie.After-enum-told) where
+module _ (c : tie.In-Accepted) where
   abbrev start : tie.Start
-  start = c.before.before.before
+  start = c.before.before
 
   left :
       InRange start.args.v1 start.args.v2 start.args.w1 start.args.w2 ×
       ((2 ^ 30 ≤ largest_of (cross_of start.args.v1 start.args.v2)) × (2 ^ 30 ≤ largest_of (cross_of start.args.w1 start.args.w2)))
-  left = acceptable start.args.v1 start.args.v2 start.args.w1 start.args.w2 c.before.before.tested.ensures c.enum_told.given.1
+  left = acceptable start.args.v1 start.args.v2 start.args.w1 start.args.w2 c.before.before.tested.ensures c.enum_told-1.given.1
 
 tested-requires : tie.Need-tested-requires
 tested-requires c κs = search rules
 
-enum-known-refusal : tie.Need-enum-known-refusal
+enum-known-refusal : tie.Need-enum_known-refusal
 enum-known-refusal c = search rules
 
-enum_told : tie.Need-enum-told
+enum_told : tie.Need-enum_told-1
 enum_told c = search rules
 
-axes-of-requires : tie.Need-axes-of-requires
+axes-of-requires : tie.Need-axes_of-camera-requires
 axes-of-requires c κs = let o = left c in search rules
 
-axes-of-requires-2 : tie.Need-axes-of-requires-2
+axes-of-requires-2 : tie.Need-axes_of-sky-requires
 axes-of-requires-2 c κs = let o = left c.before in search rules
 
 product-requires : tie.Need-product-requires
 product-requires c κs =
     let o = (left c.before.before).0 in
-    let camera : AxesWithin c.before.axes-of.result = rw c.before.axes-of.ensures (axes-within _ _ (search rules)) in
-    let sky : AxesWithin c.axes-of2.result = rw c.axes-of2.ensures (axes-within _ _ (search rules)) in
+    let camera : AxesWithin c.before.axes_of-camera.result = rw c.before.axes_of-camera.ensures (axes-within _ _ (search rules)) in
+    let sky : AxesWithin c.axes_of-sky.result = rw c.axes_of-sky.ensures (axes-within _ _ (search rules)) in
     search rules
 
-returns : tie.Need-returns
+returns : tie.Need-returns-in-Refused
 returns c =
-    let told = c.before.before.before in
+    let told = c.before.before in
     let s = told.before in
-    let refused = c.before.refusal.given in
+    let refused = c.before.refusal-1.given in
     both s (by-refusal s.args.v1 s.args.v2 s.args.w1 s.args.w2 told.tested.ensures refused.1)
 
-returns-2 : tie.Need-returns-2
+returns-2 : tie.Need-returns-in-Accepted
 unfolding matrix_of
 returns-2 c =
     let o = c.before.before.before in
     let s = start o in
-    let camera = c.before.before.axes-of.ensures in
-    let sky = c.before.axes-of2.ensures in
+    let camera = c.before.before.axes_of-camera.ensures in
+    let sky = c.before.axes_of-sky.ensures in
     let product = c.product.ensures ∙ (λ i. product_of (camera i) (sky i)) in
-    let found = by-acceptance s.args.v1 s.args.v2 s.args.w1 s.args.w2 o.before.before.tested.ensures o.enum_told.given.1 in
+    let found = by-acceptance s.args.v1 s.args.v2 s.args.w1 s.args.w2 o.before.before.tested.ensures o.enum_told-1.given.1 in
     both s (found ∙ ap (λ (m : Matrix). Found m) (sym product))
 
-pub triad-spec : {M : Type 1} → statement M
-triad-spec =
+pub triad_spec : {M : Type 1} → statement M
+triad_spec =
     tie.close
     (tie.spec
     tested-requires

@@ -7,5 +7,5 @@ use Rattle.attitude_gimbal.proofs.along.Tie as tie
 returns : tie.Need-returns
 returns c = (refl, equal-bits refl)
 
-pub along-spec : {M : Type 1} → statement M
-along-spec = tie.close (tie.spec returns)
+pub along_spec : {M : Type 1} → statement M
+along_spec = tie.close (tie.spec returns)

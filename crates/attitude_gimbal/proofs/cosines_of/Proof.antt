@@ -18,29 +18,29 @@ both m e = in-terms gimbal_answer (sym e) (answers m)
 tested-requires : tie.Need-tested-requires
 tested-requires c κs = search rules
 
-enum-known-refusal : tie.Need-enum-known-refusal
+enum-known-refusal : tie.Need-enum_known-refusal
 enum-known-refusal c = search rules
 
-enum_told : tie.Need-enum-told
+enum_told : tie.Need-enum_told-1
 enum_told c = search rules
 
 rows-requires : tie.Need-rows-requires
-rows-requires c κs = acceptable c.before.before.before.args.m c.before.before.tested.ensures c.enum_told.given.1
+rows-requires c κs = acceptable c.before.before.before.args.m c.before.before.tested.ensures c.enum_told-1.given.1
 
-returns : tie.Need-returns
+returns : tie.Need-returns-in-Refused
 returns c =
     let told = c.before.before.before in
     let m = told.before.args.m in
-    both m (by-refusal m told.tested.ensures c.before.refusal.given.1)
+    both m (by-refusal m told.tested.ensures c.before.refusal-1.given.1)
 
-returns-2 : tie.Need-returns-2
+returns-2 : tie.Need-returns-in-Accepted
 returns-2 c =
     let o = c.before in
     let told = o.before.before in
     let m = told.before.args.m in
-    both m (by-acceptance m told.tested.ensures o.enum_told.given.1 ∙ ap (λ (r : Cosines). Rows r) (sym c.rows.ensures))
+    both m (by-acceptance m told.tested.ensures o.enum_told-1.given.1 ∙ ap (λ (r : Cosines). Rows r) (sym c.rows.ensures))
 
-pub cosines-of-spec : {M : Type 1} → statement M
-cosines-of-spec =
+pub cosines_of_spec : {M : Type 1} → statement M
+cosines_of_spec =
     tie.close
     (tie.spec tested-requires enum-known-refusal enum_told rows-requires returns returns-2)

@@ -15,12 +15,12 @@ along-requires-2 c κs = search rules
 along-requires-3 : tie.Need-along-requires-3
 along-requires-3 c κs = search rules
 
-result : (c : tie.After-along3) → let s = c.before.before.before in ◌≡◌ {A = Triple}
-    (record { x = c.before.before.along.result; y = c.before.along2.result; z = c.along3.result }) (turned_of s.args.rows s.args.target)
-result c = λ i. record { x = c.before.before.along.ensures.0 i; y = c.before.along2.ensures.0 i; z = c.along3.ensures.0 i }
+result : (c : tie.After-along-3) → let s = c.before.before.before in ◌≡◌ {A = Triple}
+    (record { x = c.before.before.along.result; y = c.before.along-2.result; z = c.along-3.result }) (turned_of s.args.rows s.args.target)
+result c = λ i. record { x = c.before.before.along.ensures.0 i; y = c.before.along-2.ensures.0 i; z = c.along-3.ensures.0 i }
 
 returns : tie.Need-returns
 returns c = (result c, equal-bits3 (result c))
 
-pub turned-spec : {M : Type 1} → statement M
-turned-spec = tie.close (tie.spec along-requires along-requires-2 along-requires-3 returns)
+pub turned_spec : {M : Type 1} → statement M
+turned_spec = tie.close (tie.spec along-requires along-requires-2 along-requires-3 returns)

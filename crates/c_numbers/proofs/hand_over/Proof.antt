@@ -17,42 +17,42 @@ use Rattle.c_numbers.proofs.hand_over.Tie as tie
 use Rattle.c_numbers.proofs.hand_over.Reads as reads
 use Rattle.c_numbers.proofs.hand_over.Lts as lts
 
-abbrev invariant-loop : tie.invariant-loop
+abbrev invariant-loop : tie.invariant-loop-i
 invariant-loop out₀ flat i₀ out i = (i ≤ 64) × (64 ≤ length out₀) × (length flat ≡ 64) × (length out ≡ length out₀) × (out ≡ take i flat ++ drop i out₀)
 
-abbrev decreases-loop : tie.decreases-loop
+abbrev decreases-loop : tie.decreases-loop-i
 decreases-loop out₀ flat i₀ out i = 64 - i
 
-returns : tie.Need-returns invariant-loop decreases-loop
+returns : tie.Need-returns-then-out-lt64 invariant-loop decreases-loop
 unfolding handed_over
-returns c = rw (lt-ltb _ _ c.if1.true) refl
+returns c = rw (lt-ltb _ _ c.if-out-lt64.true) refl
 
-loop-holds : tie.Need-loop-init invariant-loop decreases-loop
+loop-holds : tie.Need-loop-i-init invariant-loop decreases-loop
 loop-holds c = (search rules, search rules, search rules, refl, refl)
 
-mul-out : tie.Need-overflow-mul-out invariant-loop decreases-loop
+mul-out : tie.Need-offset_bounds-flat-i invariant-loop decreases-loop
 mul-out c = search rules
 
-array-copy-out-out : tie.Need-array-copy-out-out invariant-loop decreases-loop
+array-copy-out-out : tie.Need-bounds-flat-i invariant-loop decreases-loop
 array-copy-out-out c = search rules
 
-mul-t12 : tie.Need-overflow-mul-t12 invariant-loop decreases-loop
+mul-t12 : tie.Need-offset_bounds-out-i invariant-loop decreases-loop
 mul-t12 c = search rules
 
-slice-set-from-out : tie.Need-slice-set-from-out invariant-loop decreases-loop
+slice-set-from-out : tie.Need-bounds-out-i invariant-loop decreases-loop
 slice-set-from-out c = search rules
 
-add-i : tie.Need-overflow-add-i invariant-loop decreases-loop
+add-i : tie.Need-overflow_add-i invariant-loop decreases-loop
 add-i c = search rules
 
-loop-less : tie.Need-loop-smaller invariant-loop decreases-loop
+loop-less : tie.Need-loop-i-smaller invariant-loop decreases-loop
 loop-less c = search rules
 
-loop-again : tie.Need-loop-preserved invariant-loop decreases-loop
+loop-again : tie.Need-loop-i-preserved invariant-loop decreases-loop
 loop-again c =
-    let l = c.before.before.loop in
+    let l = c.before.before.loop-i in
     let s = c.before.before.before.before in
-    let e = kept w64 {r = get_or s.args.t2 l.i (pos 0)} c.out.given refl in (
+    let e = kept w64 {r = get_or s.args.t2 l.i (pos 0)} c.out-1.given refl in (
       search rules,
       l.invariant.1,
       l.invariant.2,
@@ -60,18 +60,18 @@ loop-again c =
       rw (e, l.invariant.4) (copied (pos 0) s.args.t2 s.args.out.now l.i (search rules) (search rules)),
     )
 
-same_length : tie.Need-same-length invariant-loop decreases-loop
+same_length : tie.Need-shape_of-out invariant-loop decreases-loop
 same_length c = search rules
 
-returns-2 : tie.Need-returns-2 invariant-loop decreases-loop
+returns-2 : tie.Need-returns invariant-loop decreases-loop
 unfolding handed_over
 returns-2 c =
-    let v = c.before.loop.invariant in
-    let e : c.before.loop.i ≡ 64 = omega arith in
+    let v = c.before.loop-i.invariant in
+    let e : c.before.loop-i.i ≡ 64 = omega arith in
     v.4 ∙ rw (e, take_all 64 c.before.before.before.args.t2 (omega arith), le-ltb _ _ v.1) refl
 
-pub hand-over-spec : {M : Type 1} → statement M
-hand-over-spec =
+pub hand_over_spec : {M : Type 1} → statement M
+hand_over_spec =
     tie.close
     (tie.spec
     invariant-loop

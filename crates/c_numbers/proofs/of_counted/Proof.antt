@@ -5,26 +5,26 @@ use borrow.Author.Rules.{rules}
 use Rattle.c_numbers.proofs.of_counted.Statement.{statement}
 use Rattle.c_numbers.proofs.of_counted.Tie as tie
 
-enum-known-counted : tie.Need-enum-known-counted
+enum-known-counted : tie.Need-enum_known-counted
 enum-known-counted c = search rules
 
-of-refusal-requires : tie.Need-of-refusal-requires
+of-refusal-requires : tie.Need-of_refusal-requires
 of-refusal-requires c κs = search rules
 
-enum-known-counted-2 : tie.Need-enum-known-counted-2
+enum-known-counted-2 : tie.Need-enum_known-counted-in-Count-1
 enum-known-counted-2 c = search rules
 
-of-count-requires : tie.Need-of-count-requires
+of-count-requires : tie.Need-of_count-requires
 of-count-requires c κs = search rules
 
-returns : tie.Need-returns
-returns c = c.of-refusal.ensures ∙ ap counted_numbers (sym c.before.before.counted.given.1)
+returns : tie.Need-returns-in-Refused
+returns c = c.of_refusal.ensures ∙ ap counted_numbers (sym c.before.before.counted-1.given.1)
 
-returns-2 : tie.Need-returns-2
-returns-2 c = c.of-count.ensures ∙ ap counted_numbers (sym c.before.before.counted2.given.1)
+returns-2 : tie.Need-returns-in-Count
+returns-2 c = c.of_count.ensures ∙ ap counted_numbers (sym c.before.before.counted-in-Count-1.given.1)
 
-pub of-counted-spec : {M : Type 1} → statement M
-of-counted-spec =
+pub of_counted_spec : {M : Type 1} → statement M
+of_counted_spec =
     tie.close
     (tie.spec
     enum-known-counted

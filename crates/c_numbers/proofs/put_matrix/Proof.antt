@@ -8,29 +8,29 @@ use Rattle.c_numbers.specs.Numbers.{with_vector}
 use Rattle.c_numbers.proofs.put_matrix.Statement.{statement}
 use Rattle.c_numbers.proofs.put_matrix.Tie as tie
 
-put-vector-requires : tie.Need-put-vector-requires
+put-vector-requires : tie.Need-put_vector-first-requires
 put-vector-requires c κs = search rules
 
-add-put-vector : tie.Need-overflow-add-put-vector
+add-put-vector : tie.Need-overflow_add-at
 add-put-vector c = search rules
 
-put-vector-requires-2 : tie.Need-put-vector-requires-2
+put-vector-requires-2 : tie.Need-put_vector-second-requires
 put-vector-requires-2 c κs = search rules
 
-add-put-vector-2 : tie.Need-overflow-add-put-vector-2
+add-put-vector-2 : tie.Need-overflow_add-at-2
 add-put-vector-2 c = search rules
 
-put-vector-requires-3 : tie.Need-put-vector-requires-3
+put-vector-requires-3 : tie.Need-put_vector-requires
 put-vector-requires-3 c κs = search rules
 
 returns : tie.Need-returns
 returns c =
     let a = c.before.before.before.args in
-    c.put-vector3.ensures
+    c.put_vector-first.ensures
     ∙ ap (λ (xs : List ℤ). with_vector xs (a.at + 6) a.matrix.row2)
-    (c.before.put-vector2.ensures ∙ ap (λ (xs : List ℤ). with_vector xs (a.at + 3) a.matrix.row1) c.before.before.put_vector.ensures)
+    (c.before.put_vector-second.ensures ∙ ap (λ (xs : List ℤ). with_vector xs (a.at + 3) a.matrix.row1) c.before.before.put_vector-first.ensures)
 
-pub put-matrix-spec : {M : Type 1} → statement M
-put-matrix-spec =
+pub put_matrix_spec : {M : Type 1} → statement M
+put_matrix_spec =
     tie.close
     (tie.spec put-vector-requires add-put-vector put-vector-requires-2 add-put-vector-2 put-vector-requires-3 returns)

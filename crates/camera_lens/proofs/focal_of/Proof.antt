@@ -15,19 +15,19 @@ use Rattle.camera_lens.proofs.focal_of.Tie as tie
 both : (l : Lens) {r : Focal} → r ≡ focal_of l → (r ≡ focal_of l) × (focal_answer r ≡ answer_for l)
 both l e = in-terms focal_answer e (answers l)
 
-lens-ok-requires : tie.Need-lens-ok-requires
+lens-ok-requires : tie.Need-lens_ok-requires
 lens-ok-requires c κs = search rules
 
-pixels-of-requires : tie.Need-pixels-of-requires
+pixels-of-requires : tie.Need-pixels_of-requires
 pixels-of-requires c κs = search rules
 
 whole-requires : tie.Need-whole-requires
 whole-requires c κs =
     let t = c.before in
     let a = t.before in
-    ap (λ (q : Float). in_range q) c.pixels-of.ensures ∙ pixels-in a.before.args.lens (sym a.lens-ok.ensures ∙ t.if1.true)
+    ap (λ (q : Float). in_range q) c.pixels_of.ensures ∙ pixels-in a.before.args.lens (sym a.lens_ok.ensures ∙ t.if-lens_ok.true)
 
-returns : tie.Need-returns
+returns : tie.Need-returns-then-lens_ok
 unfolding focal_number
 returns c =
     let p = c.before in
@@ -35,16 +35,16 @@ returns c =
     let a = t.before in
     let l = a.before.args.lens in
     let z = c.whole.result in
-    let number : to_z w64 (of_z w64 z) ≡ pos (focal_number l) = to_z-of_z w64 z (record { sfits = c.whole.type-inv }) ∙ c.whole.ensures
-    ∙ ap (λ (q : Float). pos (whole_of q)) p.pixels-of.ensures in
-    both l (ap (λ (f : ℤ). Whole f) number ∙ sym (lens-in l (sym a.lens-ok.ensures ∙ t.if1.true)))
+    let number : to_z w64 (of_z w64 z) ≡ pos (focal_number l) = to_z-of_z w64 z (record { sfits = c.whole.type_inv }) ∙ c.whole.ensures
+    ∙ ap (λ (q : Float). pos (whole_of q)) p.pixels_of.ensures in
+    both l (ap (λ (f : ℤ). Whole f) number ∙ sym (lens-in l (sym a.lens_ok.ensures ∙ t.if-lens_ok.true)))
 
-returns-2 : tie.Need-returns-2
+returns-2 : tie.Need-returns
 returns-2 c =
     let a = c.before in
     let l = a.before.args.lens in
-    both l (sym (lens-out l (sym a.lens-ok.ensures ∙ c.if1.false)))
+    both l (sym (lens-out l (sym a.lens_ok.ensures ∙ c.if-lens_ok.false)))
 
-pub focal-of-spec : {M : Type 1} → statement M
-focal-of-spec =
+pub focal_of_spec : {M : Type 1} → statement M
+focal_of_spec =
     tie.close (tie.spec lens-ok-requires pixels-of-requires whole-requires returns returns-2)

@@ -11,25 +11,25 @@ by_first : (l : Lens) {a t : Bool} → a ≡ all_above l → a ≡ t → (t && i
 unfolding lens_ok
 by_first l e h = ap (λ (t : Bool). t && in_range (pixels_of l)) (sym h ∙ e)
 
-all-above-requires : tie.Need-all-above-requires
+all-above-requires : tie.Need-all_above-requires
 all-above-requires c κs = search rules
 
-pixels-of-requires : tie.Need-pixels-of-requires
+pixels-of-requires : tie.Need-pixels_of-requires
 pixels-of-requires c κs = search rules
 
-in-range-requires : tie.Need-in-range-requires
+in-range-requires : tie.Need-in_range-requires
 in-range-requires c κs = search rules
 
-returns : tie.Need-returns
+returns : tie.Need-returns-then-all_above
 returns c =
     let p = c.before in
     let a = p.before.before in
-    c.in-range.ensures ∙ ap (λ (q : Float). in_range q) p.pixels-of.ensures
-    ∙ by_first a.before.args.lens a.all_above.ensures p.before.if1.true
+    c.in_range.ensures ∙ ap (λ (q : Float). in_range q) p.pixels_of.ensures
+    ∙ by_first a.before.args.lens a.all_above.ensures p.before.if-all_above.true
 
-returns-2 : tie.Need-returns-2
-returns-2 c = let a = c.before in by_first a.before.args.lens a.all_above.ensures c.if1.false
+returns-2 : tie.Need-returns
+returns-2 c = let a = c.before in by_first a.before.args.lens a.all_above.ensures c.if-all_above.false
 
-pub lens-ok-spec : {M : Type 1} → statement M
-lens-ok-spec =
+pub lens_ok_spec : {M : Type 1} → statement M
+lens_ok_spec =
     tie.close (tie.spec all-above-requires pixels-of-requires in-range-requires returns returns-2)

@@ -11,14 +11,14 @@ none_is : Pixels (of_bits binary64 0) ≡ none
 unfolding of_bits
 none_is = refl
 
-returns : tie.Need-returns
-returns c = let a = c.before.args in sym (by-millimetres a.kind a.first a.second c.match.keys1)
+returns : tie.Need-returns-in-0
+returns c = let a = c.before.args in sym (by-millimetres a.kind a.first a.second c.in-0.keys1)
 
-returns-2 : tie.Need-returns-2
-returns-2 c = let a = c.before.args in sym (by-pixels a.kind a.first a.second c.match.keys2)
+returns-2 : tie.Need-returns-in-1
+returns-2 c = let a = c.before.args in sym (by-pixels a.kind a.first a.second c.in-1.keys2)
 
-returns-3 : tie.Need-returns-3
-returns-3 c = let a = c.before.args in none_is ∙ sym (by-none a.kind a.first a.second c.match.rest.0.1 c.match.rest.1)
+returns-3 : tie.Need-returns-in_default
+returns-3 c = let a = c.before.args in none_is ∙ sym (by-none a.kind a.first a.second c.in_default.rest.0.1 c.match.rest.1)
 
-pub stated-spec : {M : Type 1} → statement M
-stated-spec = tie.close (tie.spec returns returns-2 returns-3)
+pub stated_spec : {M : Type 1} → statement M
+stated_spec = tie.close (tie.spec returns returns-2 returns-3)

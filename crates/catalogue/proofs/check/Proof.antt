@@ -18,36 +18,36 @@ use Rattle.catalogue.proofs.check.Statement.{statement}
 use Rattle.catalogue.proofs.check.Tie as tie
 
 -- past the first test the length is right
-right : (c : tie.Else1) → length_ok (length c.before.before.before.args.bytes.now) ≡ true
-right c = sym c.before.length-ok.ensures ∙ not-false _ c.if1.false
+right : (c : tie.Else-not-length_ok) → length_ok (length c.before.before.before.args.bytes.now) ≡ true
+right c = sym c.before.length_ok.ensures ∙ c.if-not-length_ok.false
 
 -- the second promise follows from the first
 both : {r : Counted} (bytes : List ℕ) → r ≡ checked_of bytes → (r ≡ checked_of bytes) × (count_answer r ≡ answer_for bytes)
 both bytes e = in-terms count_answer e (answers bytes)
 
-length-ok-requires : tie.Need-length-ok-requires
+length-ok-requires : tie.Need-length_ok-requires
 length-ok-requires c κs = search rules
 
-returns : tie.Need-returns
-returns c = both _ (sym (checked _ (wrong-length _ (sym c.before.length-ok.ensures ∙ not-true _ c.if1.true))))
+returns : tie.Need-returns-then-not-length_ok
+returns c = both _ (sym (checked _ (wrong-length _ (sym c.before.length_ok.ensures ∙ c.if-not-length_ok.true))))
 
-records-requires : tie.Need-records-requires
+records-requires : tie.Need-records-n-requires
 records-requires c κs = search rules
 
-first-broken-requires : tie.Need-first-broken-requires
+first-broken-requires : tie.Need-first_broken-broken-requires
 first-broken-requires c κs = search rules
 
-returns-2 : tie.Need-returns-2
+returns-2 : tie.Need-returns-then-broken-n
 returns-2 c =
-    let b = c.before.first-broken.ensures in
+    let b = c.before.first_broken-broken.ensures in
     both _
     ((λ j. Refused (record { number = record_rule; place = b j })) ∙ sym (checked _
-    (one-broken _ (right c.before.before.before) (omega (arith, c.before.before.records.ensures)))))
+    (one-broken _ (right c.before.before.before) (omega (arith, c.before.before.records-n.ensures)))))
 
-returns-3 : tie.Need-returns-3
+returns-3 : tie.Need-returns
 returns-3 c =
-    let n = c.before.before.records.ensures in
+    let n = c.before.before.records-n.ensures in
     both _ ((λ j. Count (n j)) ∙ sym (checked _ (none-broken _ (right c.before.before.before) (omega arith))))
 
-pub check-spec : {M : Type 1} → statement M
-check-spec = tie.close (tie.spec length-ok-requires returns records-requires first-broken-requires returns-2 returns-3)
+pub check_spec : {M : Type 1} → statement M
+check_spec = tie.close (tie.spec length-ok-requires returns records-requires first-broken-requires returns-2 returns-3)

@@ -15,14 +15,14 @@ records-requires c κs = search rules
 magnitude-requires : tie.Need-magnitude-requires
 magnitude-requires c κs = search rules
 
-returns : tie.Need-returns
+returns : tie.Need-returns-then-i-records
 unfolding magnitude_for
 returns c = rw (lt-ltb c.before.before.before.before.args.i (records_in c.before.before.before.before.args.bytes.now) (omega arith))
-    (kept w32 c.magnitude.type-inv c.magnitude.ensures)
+    (kept w32 c.magnitude.type_inv c.magnitude.ensures)
 
-returns-2 : tie.Need-returns-2
+returns-2 : tie.Need-returns
 unfolding magnitude_for
 returns-2 c = rw (le-ltb c.before.before.before.args.i (records_in c.before.before.before.args.bytes.now) (omega arith))
 
-pub magnitude-spec : {M : Type 1} → statement M
-magnitude-spec = tie.close (tie.spec records-requires magnitude-requires returns returns-2)
+pub magnitude_spec : {M : Type 1} → statement M
+magnitude_spec = tie.close (tie.spec records-requires magnitude-requires returns returns-2)

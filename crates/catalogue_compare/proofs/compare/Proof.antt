@@ -27,59 +27,59 @@ settled first second room e a b =
     let p = in-terms count_answer (a ∙ sym (compared first second (length room) e)) (answers first second (length room)) in
     (p.0, (b ∙ sym (room_after first second room e), p.1))
 
-abbrev start : tie.After-enum-told → tie.Start
+abbrev start : tie.In_default → tie.Start
 start c = c.before.before.before.before.before.before
 
-accepted : (c : tie.After-enum-told) → first_applying (catalogues_refused (start c).args.first.now (start c).args.second.now) ≡ Accepted
-accepted c = sym c.before.before.judge.ensures ∙ c.enum_told.given.1
+accepted : (c : tie.In_default) → first_applying (catalogues_refused (start c).args.first.now (start c).args.second.now) ≡ Accepted
+accepted c = sym c.before.before.judge-outcome.ensures ∙ c.enum_told-1.given.1
 
-judge-requires : tie.Need-judge-requires
+judge-requires : tie.Need-judge-outcome-requires
 judge-requires c κs = search rules
 
-enum-known-outcome : tie.Need-enum-known-outcome
+enum-known-outcome : tie.Need-enum_known-outcome
 enum-known-outcome c = search rules
 
-returns : tie.Need-returns
+returns : tie.Need-returns-in-Refused
 returns c =
     let x = c.before.before.before.before.before.before.before.args in
-    settled x.first.now x.second.now x.room.now (refused _ _ (length x.room.now) _ (sym c.before.before.before.judge.ensures
-    ∙ c.before.outcome.given.1)) refl refl
+    settled x.first.now x.second.now x.room.now (refused _ _ (length x.room.now) _ (sym c.before.before.before.judge-outcome.ensures
+    ∙ c.before.outcome-1.given.1)) refl refl
 
-enum_told : tie.Need-enum-told
+enum_told : tie.Need-enum_told-1
 enum_told c = search rules
 
-count-requires : tie.Need-count-requires
+count-requires : tie.Need-count-records-requires
 count-requires c κs = both-valid _ _ (accepted c)
 
-mul-if1 : tie.Need-overflow-mul-if1
+mul-if1 : tie.Need-overflow_mul-records
 mul-if1 c = search rules
 
-returns-2 : tie.Need-returns-2
+returns-2 : tie.Need-returns-then-room-records
 returns-2 c =
     let t = c.before.before in
     let x = (start t).args in
-    settled x.first.now x.second.now x.room.now (too_short _ _ (length x.room.now) (accepted t) (omega (arith, c.before.count.ensures.0)))
+    settled x.first.now x.second.now x.room.now (too_short _ _ (length x.room.now) (accepted t) (omega (arith, c.before.count-records.ensures.0)))
     refl refl
 
 write-requires : tie.Need-write-requires
 write-requires c κs =
     let k = c.before.before in
-    (both-valid _ _ (accepted k.before), omega (arith, k.count.ensures.0))
+    (both-valid _ _ (accepted k.before), omega (arith, k.count-records.ensures.0))
 
-same_length : tie.Need-same-length
+same_length : tie.Need-shape_of-room
 same_length c = search rules
 
-returns-3 : tie.Need-returns-3
+returns-3 : tie.Need-returns
 returns-3 c =
     let w : tie.After-write = search rules in
     let k = w.before.before.before in
     let t = k.before in
     let x = (start t).args in
-    settled x.first.now x.second.now x.room.now (long-enough _ _ (length x.room.now) (accepted t) (omega (arith, k.count.ensures.0)))
-    (ap Count k.count.ensures.0) w.write.ensures
+    settled x.first.now x.second.now x.room.now (long-enough _ _ (length x.room.now) (accepted t) (omega (arith, k.count-records.ensures.0)))
+    (ap Count k.count-records.ensures.0) w.write.ensures
 
-pub compare-spec : {M : Type 1} → statement M
-compare-spec =
+pub compare_spec : {M : Type 1} → statement M
+compare_spec =
     tie.close
     (tie.spec
     judge-requires

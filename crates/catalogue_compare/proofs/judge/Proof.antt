@@ -7,49 +7,49 @@ use borrow.Author.Rules.{rules}
 use Rattle.catalogue_compare.proofs.judge.Statement.{statement}
 use Rattle.catalogue_compare.proofs.judge.Tie as tie
 
-valid : (c : tie.After-enum-told) → Valid c.before.before.before.before.before.args.first.now
-valid c = (checked-valid _ _ (sym c.before.before.check.ensures.0 ∙ c.enum_told.given.1)).0
+valid : (c : tie.In_default) → Valid c.before.before.before.before.before.args.first.now
+valid c = (checked-valid _ _ (sym c.before.before.check-checked.ensures.0 ∙ c.enum_told-1.given.1)).0
 
-check-requires : tie.Need-check-requires
+check-requires : tie.Need-check-checked-requires
 check-requires c κs = search rules
 
-enum-known-checked : tie.Need-enum-known-checked
+enum-known-checked : tie.Need-enum_known-checked
 enum-known-checked c = search rules
 
-returns : tie.Need-returns
+returns : tie.Need-returns-in-Refused
 returns c =
     let x = c.before.before.before.before.before.before.args in
-    sym (first-refused x.first.now x.second.now _ (checked_refused _ _ (sym c.before.before.before.check.ensures.0
-    ∙ c.before.checked.given.1)))
+    sym (first-refused x.first.now x.second.now _ (checked_refused _ _ (sym c.before.before.before.check-checked.ensures.0
+    ∙ c.before.checked-1.given.1)))
 
-enum_told : tie.Need-enum-told
+enum_told : tie.Need-enum_told-1
 enum_told c = search rules
 
-check-requires-2 : tie.Need-check-requires-2
+check-requires-2 : tie.Need-check-other-requires
 check-requires-2 c κs = search rules
 
-enum-known-other : tie.Need-enum-known-other
+enum-known-other : tie.Need-enum_known-other
 enum-known-other c = search rules
 
-returns-2 : tie.Need-returns-2
+returns-2 : tie.Need-returns-in-Refused-other
 returns-2 c =
-    let t : tie.After-enum-told = search rules in
+    let t : tie.In_default = search rules in
     let x = t.before.before.before.before.before.args in
-    sym (then-second x.first.now x.second.now (valid t) (checked_refused _ _ (sym c.before.before.before.check2.ensures.0
-    ∙ c.before.other.given.1)))
+    sym (then-second x.first.now x.second.now (valid t) (checked_refused _ _ (sym c.before.before.before.check-other.ensures.0
+    ∙ c.before.other-1.given.1)))
 
-enum-told-2 : tie.Need-enum-told-2
+enum-told-2 : tie.Need-enum_told-in_default-other
 enum-told-2 c = search rules
 
-returns-3 : tie.Need-returns-3
+returns-3 : tie.Need-returns
 returns-3 c =
-    let t : tie.After-enum-told = search rules in
+    let t : tie.In_default = search rules in
     let x = t.before.before.before.before.before.args in
     sym (then-second x.first.now x.second.now (valid t) (valid-accepted _
-    (checked-valid _ _ (sym c.before.before.check2.ensures.0 ∙ c.enum-told2.given.1)).0))
+    (checked-valid _ _ (sym c.before.before.check-other.ensures.0 ∙ c.enum_told-in_default-other-1.given.1)).0))
 
-pub judge-spec : {M : Type 1} → statement M
-judge-spec =
+pub judge_spec : {M : Type 1} → statement M
+judge_spec =
     tie.close
     (tie.spec
     check-requires

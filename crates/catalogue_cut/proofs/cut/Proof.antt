@@ -16,8 +16,8 @@ use Rattle.catalogue_cut.specs.CutSteps.{answers, catalogue-refused, catalogue-k
 use Rattle.catalogue_cut.proofs.cut.Statement.{statement}
 use Rattle.catalogue_cut.proofs.cut.Tie as tie
 
-valid : (c : tie.After-enum-told) → Valid c.before.before.before.before.before.args.bytes.now
-valid c = (checked-valid _ _ (sym c.before.before.check.ensures.0 ∙ c.enum_told.given.1)).0
+valid : (c : tie.In_default) → Valid c.before.before.before.before.before.args.bytes.now
+valid c = (checked-valid _ _ (sym c.before.before.check-checked.ensures.0 ∙ c.enum_told-1.given.1)).0
 
 -- the answer in the documents' terms follows from what is given
 promised : (bytes : List ℕ) (limit closeness : ℤ) {r : Counted} {after : List ℕ} → r ≡ shortened_of bytes limit closeness
@@ -25,33 +25,33 @@ promised : (bytes : List ℕ) (limit closeness : ℤ) {r : Counted} {after : Lis
     → (r ≡ shortened_of bytes limit closeness) × ((after ≡ buffer_after bytes limit closeness) × (count_answer r ≡ answer_for bytes limit closeness))
 promised bytes limit closeness e f = let p = in-terms count_answer e (answers bytes limit closeness) in (p.0, (f, p.1))
 
-check-requires : tie.Need-check-requires
+check-requires : tie.Need-check-checked-requires
 check-requires c κs = search rules
 
-enum-known-checked : tie.Need-enum-known-checked
+enum-known-checked : tie.Need-enum_known-checked
 enum-known-checked c = search rules
 
-same_length : tie.Need-same-length
+same_length : tie.Need-shape_of-bytes-in-Refused
 same_length c = search rules
 
-returns : tie.Need-returns
+returns : tie.Need-returns-in-Refused
 returns c =
     let k = c.before.before.before in
     let x = k.before.before.before.args in
-    let e = checked_refused _ _ (sym k.check.ensures.0 ∙ c.before.checked.given.1) in
+    let e = checked_refused _ _ (sym k.check-checked.ensures.0 ∙ c.before.checked-1.given.1) in
     promised x.bytes.now x.limit x.closeness (sym (catalogue-refused x.bytes.now x.limit x.closeness _ e))
     (sym (catalogue-kept x.bytes.now x.limit x.closeness _ e))
 
-enum_told : tie.Need-enum-told
+enum_told : tie.Need-enum_told-1
 enum_told c = search rules
 
-cut-valid-requires : tie.Need-cut-valid-requires
+cut-valid-requires : tie.Need-cut_valid-requires
 cut-valid-requires c κs = valid c.before
 
-same-length-2 : tie.Need-same-length-2
+same-length-2 : tie.Need-shape_of-bytes
 same-length-2 c = search rules
 
-returns-2 : tie.Need-returns-2
+returns-2 : tie.Need-returns
 returns-2 c =
     let w = c.before.before in
     let t = w.before.before in
@@ -60,8 +60,8 @@ returns-2 c =
     let y = to_z-of_z w32 x.limit s.ranges.limit in
     let z = to_z-of_z w64 x.closeness s.ranges.closeness in
     promised x.bytes.now x.limit x.closeness
-    (w.cut-valid.ensures.0 ∙ (λ i. shortened_from x.bytes.now (y i) (z i)) ∙ sym (valid-shortened x.bytes.now x.limit x.closeness (valid t)))
-    (w.cut-valid.ensures.1 ∙ (λ i. buffer_from x.bytes.now (y i) (z i)) ∙ sym (valid-buffer x.bytes.now x.limit x.closeness (valid t)))
+    (w.cut_valid.ensures.0 ∙ (λ i. shortened_from x.bytes.now (y i) (z i)) ∙ sym (valid-shortened x.bytes.now x.limit x.closeness (valid t)))
+    (w.cut_valid.ensures.1 ∙ (λ i. buffer_from x.bytes.now (y i) (z i)) ∙ sym (valid-buffer x.bytes.now x.limit x.closeness (valid t)))
 
 pub cut_spec : {M : Type 1} → statement M
 cut_spec =

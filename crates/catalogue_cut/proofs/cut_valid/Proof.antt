@@ -17,56 +17,56 @@ use Rattle.catalogue_cut.proofs.cut_valid.Statement.{statement}
 use Rattle.catalogue_cut.proofs.cut_valid.Tie as tie
 
 -- the entry, from the place at which the records have moved
-abbrev start : tie.After-forward → tie.Start
+abbrev start : tie.After-forward-kept → tie.Start
 start c = c.before.before.before.before.before.before
 
 -- the marks are those of the rule
-settled : (c : tie.After-forward) → let x = (start c).args in Settled x.bytes.now x.limit x.closeness c.before.before.before.judge.result
+settled : (c : tie.After-forward-kept) → let x = (start c).args in Settled x.bytes.now x.limit x.closeness c.before.before.before.judge-marks.result
 settled c =
     let s = start c in
     settled-as (to_z-of_z w32 s.args.limit s.fits.limit) (to_z-of_z w64 s.args.closeness s.fits.closeness)
-    c.before.before.before.judge.ensures
+    c.before.before.before.judge-marks.ensures
 
 -- so many are kept
-count : (c : tie.After-forward) → let x = (start c).args in c.forward.result ≡ length (kept_in x.bytes.now x.limit x.closeness)
+count : (c : tie.After-forward-kept) → let x = (start c).args in c.forward-kept.result ≡ length (kept_in x.bytes.now x.limit x.closeness)
 count c =
     let x = (start c).args in
-    c.forward.ensures.0 ∙ ap length (marked-kept x.bytes.now x.limit x.closeness _ (settled c))
+    c.forward-kept.ensures.0 ∙ ap length (marked-kept x.bytes.now x.limit x.closeness _ (settled c))
 
 -- and they stand at the front
-front : (c : tie.After-forward) → let x = (start c).args in c.forward.new.0 ≡ moved x.bytes.now x.limit x.closeness
+front : (c : tie.After-forward-kept) → let x = (start c).args in c.forward-kept.new.0 ≡ moved x.bytes.now x.limit x.closeness
 front c =
     let x = (start c).args in
-    c.forward.ensures.1 ∙ moved-is x.bytes.now x.limit x.closeness _ (settled c)
+    c.forward-kept.ensures.1 ∙ moved-is x.bytes.now x.limit x.closeness _ (settled c)
 
 -- which is no more than there is room for
-fits : (c : tie.After-forward) → record_size * c.forward.result ≤ length (start c).args.bytes.now
+fits : (c : tie.After-forward-kept) → record_size * c.forward-kept.result ≤ length (start c).args.bytes.now
 fits c =
     let x = (start c).args in
     omega (arith, count c, flight-length x.bytes.now x.limit x.closeness, flight-most x.bytes.now x.limit x.closeness)
 
-judge-requires : tie.Need-judge-requires
+judge-requires : tie.Need-judge-marks-requires
 judge-requires c κs = search rules
 
-slice-aggregate-forward : tie.Need-slice-aggregate-forward
+slice-aggregate-forward : tie.Need-slice_bounds-forward-end
 slice-aggregate-forward c = search rules
 
-forward-requires : tie.Need-forward-requires
+forward-requires : tie.Need-forward-kept-requires
 forward-requires c κs = search rules
 
-same_length : tie.Need-same-length
+same_length : tie.Need-shape_of-bytes-then-kept-eq0
 same_length c = search rules
 
-returns : tie.Need-returns
+returns : tie.Need-returns-then-kept-eq0
 returns c =
     let f = c.before.before.before in
     let x = (start f).args in
-    let e = sym (count f) ∙ c.if1.true in (
+    let e = sym (count f) ∙ c.if-kept-eq0.true in (
       sym (none_from x.bytes.now x.limit x.closeness e),
       front f ∙ moved_none x.bytes.now x.limit x.closeness e ∙ sym (none-buffer x.bytes.now x.limit x.closeness e),
     )
 
-mul-fill : tie.Need-overflow-mul-fill
+mul-fill : tie.Need-overflow_mul-kept
 mul-fill c =
     let f = c.before.before.before.before in
     omega (arith, fits f)
@@ -74,29 +74,29 @@ mul-fill c =
 fill-requires : tie.Need-fill-requires
 fill-requires c κs =
     let f = c.before.before.before.before in
-    let h : record_size * f.forward.result ≤ length f.forward.new.0 = omega (arith, fits f, f.forward.auto.0) in
+    let h : record_size * f.forward-kept.result ≤ length f.forward-kept.new.0 = omega (arith, fits f, f.forward-kept.auto.0) in
     h
 
-same-length-2 : tie.Need-same-length-2
+same-length-2 : tie.Need-shape_of-bytes
 same-length-2 c = search rules
 
-returns-2 : tie.Need-returns-2
+returns-2 : tie.Need-returns
 returns-2 c =
     let w = c.before.before in
     let t = w.before.before in
     let f = t.before.before.before in
     let x = (start f).args in
     let n = count f in
-    let d : length (kept_in x.bytes.now x.limit x.closeness) ≡ 0 → ⊥ = λ z. t.if1.false (n ∙ z) in (
+    let d : length (kept_in x.bytes.now x.limit x.closeness) ≡ 0 → ⊥ = λ z. t.if-kept-eq0.false (n ∙ z) in (
       ap Count n ∙ sym (some-from x.bytes.now x.limit x.closeness d),
       w.fill.ensures
-          ∙ (λ j. take (record_size * n j) (front f j) ++ replicate (length f.forward.new.0 - record_size * n j) freed)
-          ∙ moved-filled x.bytes.now x.limit x.closeness (length f.forward.new.0) f.forward.auto.0
+          ∙ (λ j. take (record_size * n j) (front f j) ++ replicate (length f.forward-kept.new.0 - record_size * n j) freed)
+          ∙ moved-filled x.bytes.now x.limit x.closeness (length f.forward-kept.new.0) f.forward-kept.auto.0
           ∙ sym (some-buffer x.bytes.now x.limit x.closeness d),
     )
 
-pub cut-valid-spec : {M : Type 1} → statement M
-cut-valid-spec =
+pub cut_valid_spec : {M : Type 1} → statement M
+cut_valid_spec =
     tie.close
     (tie.spec
     judge-requires

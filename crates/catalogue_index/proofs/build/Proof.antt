@@ -15,43 +15,43 @@ use Rattle.catalogue_index.specs.BuildLaws.{answers, catalogue-refused, catalogu
 use Rattle.catalogue_index.proofs.build.Statement.{statement}
 use Rattle.catalogue_index.proofs.build.Tie as tie
 
-check-requires : tie.Need-check-requires
+check-requires : tie.Need-check-checked-requires
 check-requires c κs = search rules
 
-enum-known-checked : tie.Need-enum-known-checked
+enum-known-checked : tie.Need-enum_known-checked
 enum-known-checked c = search rules
 
-enum-known-checked-2 : tie.Need-enum-known-checked-2
+enum-known-checked-2 : tie.Need-enum_known-checked-in-Count-1
 enum-known-checked-2 c = search rules
 
 -- the entry, from the place at which the catalogue is known to be valid
-abbrev start : tie.After-known-told2 → tie.Start
+abbrev start : tie.In-Count → tie.Start
 start c = c.before.before.before.before.before.before
 
 -- so many records: those of a valid catalogue
-valid : (c : tie.After-known-told2) → Valid (start c).args.catalogue.now × (c.before.checked2.given.0.0 ≡ records_in (start c).args.catalogue.now)
-valid c = checked-valid _ _ (sym c.before.before.before.check.ensures.0 ∙ c.before.checked2.given.1)
+valid : (c : tie.In-Count) → Valid (start c).args.catalogue.now × (c.before.checked-in-Count-1.given.0.0 ≡ records_in (start c).args.catalogue.now)
+valid c = checked-valid _ _ (sym c.before.before.before.check-checked.ensures.0 ∙ c.before.checked-in-Count-1.given.1)
 
 -- the slice that is handed on
-fits : (c : tie.After-stars) → 3 * c.before.before.checked2.given.0.0 ≤ length c.stars.result
-fits c = lent-within _ _ _ c.stars.ensures (valid c.before).1 (valid c.before).0
+fits : (c : tie.After-stars-numbers) → 3 * c.before.before.checked-in-Count-1.given.0.0 ≤ length c.stars-numbers.result
+fits c = lent-within _ _ _ c.stars-numbers.ensures (valid c.before).1 (valid c.before).0
 
-lent : (c : tie.After-stars) → take (3 * c.before.before.checked2.given.0.0) c.stars.result ≡ stars_of (start c.before).args.catalogue.now
-lent c = lent-stars _ _ _ c.stars.ensures (valid c.before).1 (valid c.before).0
+lent : (c : tie.After-stars-numbers) → take (3 * c.before.before.checked-in-Count-1.given.0.0) c.stars-numbers.result ≡ stars_of (start c.before).args.catalogue.now
+lent c = lent-stars _ _ _ c.stars-numbers.ensures (valid c.before).1 (valid c.before).0
 
-stars-requires : tie.Need-stars-requires
+stars-requires : tie.Need-stars-numbers-requires
 stars-requires c κs = search rules
 
-mul-end : tie.Need-overflow-mul-end
+mul-end : tie.Need-overflow_mul-end
 mul-end c = omega (arith, (valid c.before).1, (valid c.before).0.size.most)
 
-array-share-prefix-numbers : tie.Need-array-share-prefix-numbers
+array-share-prefix-numbers : tie.Need-slice_bounds-numbers-end
 array-share-prefix-numbers c = fits c
 
-slice-aggregate-build-from : tie.Need-slice-aggregate-build-from
+slice-aggregate-build-from : tie.Need-slice_bounds-build_from-end
 slice-aggregate-build-from c = sym (length-take-le _ _ (fits c.before))
 
-build-from-requires : tie.Need-build-from-requires
+build-from-requires : tie.Need-build_from-requires
 build-from-requires c κs = let t = c.before.before in subst (Listed 512) (sym (lent t)) (valid-listed _ (valid t.before).0)
 
 -- the answer in document 01's terms follows from what was built
@@ -60,17 +60,17 @@ promised : (bytes : List ℕ) (floor : ℤ) (before : List ℕ) {b : Counted} {r
     → (b ≡ built_of bytes floor (length before)) × ((room ≡ room_after bytes floor before) × (count_answer b ≡ answer_for bytes floor (length before)))
 promised bytes floor before e f = let p = in-terms count_answer e (answers bytes floor (length before)) in (p.0, (f, p.1))
 
-returns : tie.Need-returns
+returns : tie.Need-returns-in-Refused
 returns c =
     let x = c.before.before.before.before.before.before.args in
-    let e = checked_refused _ _ (sym c.before.before.before.check.ensures.0 ∙ c.before.checked.given.1) in
+    let e = checked_refused _ _ (sym c.before.before.before.check-checked.ensures.0 ∙ c.before.checked-1.given.1) in
     promised x.catalogue.now x.floor x.room.now (sym (catalogue-refused x.catalogue.now x.floor _ e (length x.room.now)))
     (sym (catalogue-kept x.catalogue.now x.floor _ e x.room.now))
 
-same_length : tie.Need-same-length
+same_length : tie.Need-shape_of-room
 same_length c = search rules
 
-returns-2 : tie.Need-returns-2
+returns-2 : tie.Need-returns-in-Count
 returns-2 c =
     let w = c.before.before in
     let t = w.before.before.before in
@@ -79,12 +79,12 @@ returns-2 c =
     let v = (valid t.before).0 in
     let f = to_z-of_z w64 x.floor s.fits.floor in
     promised x.catalogue.now x.floor x.room.now
-    (w.build-from.ensures.0 ∙ (λ i. built_from (lent t i) (f i) (length x.room.now))
+    (w.build_from.ensures.0 ∙ (λ i. built_from (lent t i) (f i) (length x.room.now))
     ∙ sym (valid-built x.catalogue.now x.floor v (length x.room.now)))
-    (w.build-from.ensures.1 ∙ (λ i. room_from (lent t i) (f i) x.room.now) ∙ sym (valid-room x.catalogue.now x.floor v x.room.now))
+    (w.build_from.ensures.1 ∙ (λ i. room_from (lent t i) (f i) x.room.now) ∙ sym (valid-room x.catalogue.now x.floor v x.room.now))
 
-pub build-spec : {M : Type 1} → statement M
-build-spec =
+pub build_spec : {M : Type 1} → statement M
+build_spec =
     tie.close
     (tie.spec
     check-requires

@@ -7,18 +7,18 @@ use Rattle.catalogue_index.specs.BuildLaws.{refused-from, kept_from, records-fro
 use Rattle.catalogue_index.proofs.build_from.Statement.{statement}
 use Rattle.catalogue_index.proofs.build_from.Tie as tie
 
-count-is : (c : tie.After-count) → let x = c.before.before.args in c.count.result ≡ length (keys_of x.stars.now x.floor)
+count-is : (c : tie.After-count-records) → let x = c.before.before.args in c.count-records.result ≡ length (keys_of x.stars.now x.floor)
 count-is c =
     let x = c.before.before.args in
-    c.count.ensures.0 ∙ ap (λ (f : ℤ). length (keys_of x.stars.now f)) (to_z-of_z w64 x.floor c.before.before.ranges.floor)
+    c.count-records.ensures.0 ∙ ap (λ (f : ℤ). length (keys_of x.stars.now f)) (to_z-of_z w64 x.floor c.before.before.ranges.floor)
 
-count-requires : tie.Need-count-requires
+count-requires : tie.Need-count-records-requires
 count-requires c κs = search rules
 
-mul-if1 : tie.Need-overflow-mul-if1
+mul-if1 : tie.Need-overflow_mul-records
 mul-if1 c = search rules
 
-returns : tie.Need-returns
+returns : tie.Need-returns-then-room-records
 returns c =
     let x = c.before.before.before.args in
     let h : length x.room.now < 12 * length (keys_of x.stars.now x.floor) = omega (arith, count-is c.before) in
@@ -27,10 +27,10 @@ returns c =
 write-requires : tie.Need-write-requires
 write-requires c κs = search rules
 
-same_length : tie.Need-same-length
+same_length : tie.Need-shape_of-room
 same_length c = search rules
 
-returns-2 : tie.Need-returns-2
+returns-2 : tie.Need-returns
 returns-2 c =
     let w = c.before.before in
     let k = w.before.before.before in
@@ -43,6 +43,6 @@ returns-2 c =
           ∙ sym (written_from x.stars.now x.floor x.room.now h),
     )
 
-pub build-from-spec : {M : Type 1} → statement M
-build-from-spec =
+pub build_from_spec : {M : Type 1} → statement M
+build_from_spec =
     tie.close (tie.spec count-requires mul-if1 returns write-requires same_length returns-2)

@@ -9,15 +9,15 @@ use Rattle.catalogue_index.proofs.matches.Tie as tie
 raise-requires : tie.Need-raise-requires
 raise-requires c κs = search rules
 
-is-index-requires : tie.Need-is-index-requires
+is-index-requires : tie.Need-is_index-requires
 is-index-requires c κs = search rules
 
 returns : tie.Need-returns
 returns c =
     let s = c.before.before.before in
     let x = s.args in
-    says-index c.is-index.result x.stars.now x.floor x.index.now c.before.raise.result
-    (c.before.raise.ensures ∙ ap raised (to_z-of_z w64 x.floor s.ranges.floor)) c.is-index.ensures
+    says-index c.is_index.result x.stars.now x.floor x.index.now c.before.raise.result
+    (c.before.raise.ensures ∙ ap raised (to_z-of_z w64 x.floor s.ranges.floor)) c.is_index.ensures
 
-pub matches-spec : {M : Type 1} → statement M
-matches-spec = tie.close (tie.spec raise-requires is-index-requires returns)
+pub matches_spec : {M : Type 1} → statement M
+matches_spec = tie.close (tie.spec raise-requires is-index-requires returns)

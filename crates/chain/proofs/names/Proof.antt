@@ -16,45 +16,45 @@ use Rattle.chain.specs.ChainLaws.{sights-array, sights-front}
 use Rattle.chain.proofs.names.Statement.{statement}
 use Rattle.chain.proofs.names.Tie as tie
 
-abbrev listing : tie.After-directions-of → tie.After-list
+abbrev listing : tie.After-directions_of-numbers → tie.After-list-listing
 listing d = d.before.before.before
 
-abbrev start : tie.After-list → tie.Start
+abbrev start : tie.After-list-listing → tie.Start
 start l = l.before.before.before.before
 
-sighted : (l : tie.After-list) → Sighted l.list.result.report
-sighted l = subst (λ (x : Listing). Sighted x.report) (sym l.list.ensures) (listing-sighted _ _ _ _)
+sighted : (l : tie.After-list-listing) → Sighted l.list-listing.result.report
+sighted l = subst (λ (x : Listing). Sighted x.report) (sym l.list-listing.ensures) (listing-sighted _ _ _ _)
 
-array : (d : tie.After-directions-of) → length d.directions-of.result ≡ 24
+array : (d : tie.After-directions_of-numbers) → length d.directions_of-numbers.result ≡ 24
 unfolding sights_of
 array d =
     let l = listing d in
-    ap length d.directions-of.ensures ∙ sights-array l.list.result.report (start l).args.catalogue.now (start l).args.settings (sighted l).few
+    ap length d.directions_of-numbers.ensures ∙ sights-array l.list-listing.result.report (start l).args.catalogue.now (start l).args.settings (sighted l).few
     (sighted l).size
 
 -- the part of the array that is lent is the directions
-front : (d : tie.After-directions-of) → let l = listing d in
-    take (3 * l.list.result.report.count) d.directions-of.result ≡ sights_of l.list.result.report (start l).args.catalogue.now
+front : (d : tie.After-directions_of-numbers) → let l = listing d in
+    take (3 * l.list-listing.result.report.count) d.directions_of-numbers.result ≡ sights_of l.list-listing.result.report (start l).args.catalogue.now
     (start l).args.settings
 unfolding sights_of
 front d =
     let l = listing d in
-    ap (take (3 * l.list.result.report.count)) d.directions-of.ensures
-    ∙ sights-front l.list.result.report (start l).args.catalogue.now (start l).args.settings (sighted l).few (sighted l).size
+    ap (take (3 * l.list-listing.result.report.count)) d.directions_of-numbers.ensures
+    ∙ sights-front l.list-listing.result.report (start l).args.catalogue.now (start l).args.settings (sighted l).few (sighted l).size
 
-list-requires : tie.Need-list-requires
+list-requires : tie.Need-list-listing-requires
 list-requires c κs = search rules
 
-directions-of-requires : tie.Need-directions-of-requires
+directions-of-requires : tie.Need-directions_of-numbers-requires
 directions-of-requires c κs = let l = c.before.before in ((sighted l).few, (sighted l).placed)
 
-mul-end : tie.Need-overflow-mul-end
+mul-end : tie.Need-overflow_mul-end
 mul-end c = omega (arith, (sighted (listing c)).few)
 
-array-share-prefix-numbers : tie.Need-array-share-prefix-numbers
+array-share-prefix-numbers : tie.Need-slice_bounds-numbers-end
 array-share-prefix-numbers c = omega (arith, array c, (sighted (listing c)).few)
 
-slice-aggregate-search : tie.Need-slice-aggregate-search
+slice-aggregate-search : tie.Need-slice_bounds-search-end
 slice-aggregate-search c = sym (length-take-le _ _ (omega (arith, array c.before, (sighted (listing c.before)).few)))
 
 search-requires : tie.Need-search-requires
@@ -69,10 +69,10 @@ returns c =
     c.search.ensures.1
     ∙ ap (λ (ds : List ℤ). identification_of ds a.catalogue.now a.settings.needed a.settings.tolerance a.ranking.now) (front d)
     ∙ ap (λ (x : Listing). identification_of (sights_of x.report a.catalogue.now a.settings) a.catalogue.now a.settings.needed
-    a.settings.tolerance a.ranking.now) l.list.ensures
+    a.settings.tolerance a.ranking.now) l.list-listing.ensures
 
-pub names-spec : {M : Type 1} → statement M
-names-spec =
+pub names_spec : {M : Type 1} → statement M
+names_spec =
     tie.close
     (tie.spec
     list-requires

@@ -20,20 +20,20 @@ use Rattle.chain.proofs.track.Tie as tie
 
 -- ---- what each place knows
 
-abbrev start : tie.After-ranked → tie.Start
+abbrev start : tie.After-ranked-sighting → tie.Start
 start k = search rules
 
-abbrev whole : tie.After-ranked → Call
+abbrev whole : tie.After-ranked-sighting → Call
 whole k = let a = (start k).args in call a.samples.now a.catalogue.now a.settings a.room.now
 
-lent : (k : tie.After-ranked) → Lent k.ranked.result.report k.ranked.result.directions (whole k).catalogue (whole k).settings
-lent k = sighted-lent (whole k) k.ranked.result k.ranked.ensures.0
+lent : (k : tie.After-ranked-sighting) → Lent k.ranked-sighting.result.report k.ranked-sighting.result.directions (whole k).catalogue (whole k).settings
+lent k = sighted-lent (whole k) k.ranked-sighting.result k.ranked-sighting.ensures.0
 
-report-is : (k : tie.After-ranked) → k.ranked.result.report ≡ (listed (whole k)).report
-report-is k = sighted-report (whole k) k.ranked.result k.ranked.ensures.0
+report-is : (k : tie.After-ranked-sighting) → k.ranked-sighting.result.report ≡ (listed (whole k)).report
+report-is k = sighted-report (whole k) k.ranked-sighting.result k.ranked-sighting.ensures.0
 
-outcome-is : (k : tie.After-ranked) {o : Outcome} → k.ranked.result.outcome ≡ o → first_applying (refusals_of (whole k)) ≡ o
-outcome-is k = sighted-outcome (whole k) k.ranked.result k.ranked.ensures.0
+outcome-is : (k : tie.After-ranked-sighting) {o : Outcome} → k.ranked-sighting.result.outcome ≡ o → first_applying (refusals_of (whole k)) ≡ o
+outcome-is k = sighted-outcome (whole k) k.ranked-sighting.result k.ranked-sighting.ensures.0
 
 -- ---- what the definitions come to
 
@@ -63,67 +63,67 @@ nothing-named c q t e h =
 
 -- ---- the needs
 
-ranked-requires : tie.Need-ranked-requires
+ranked-requires : tie.Need-ranked-sighting-requires
 ranked-requires c κs = search rules
 
-mul-end : tie.Need-overflow-mul-end
+mul-end : tie.Need-overflow_mul-end
 mul-end c =
-    let k : tie.After-ranked = search rules in
+    let k : tie.After-ranked-sighting = search rules in
     record { fits = omega (arith, (lent k).few) }
 
-enum-known-outcome : tie.Need-enum-known-outcome
+enum-known-outcome : tie.Need-enum_known-outcome
 enum-known-outcome c = search rules
 
 refused-requires : tie.Need-refused-requires
 refused-requires c κs = search rules
 
-enum_told : tie.Need-enum-told
+enum_told : tie.Need-enum_told-1
 enum_told c = search rules
 
-array-share-prefix-directions : tie.Need-array-share-prefix-directions
+array-share-prefix-directions : tie.Need-slice_bounds-directions-end
 array-share-prefix-directions c =
-    let k : tie.After-ranked = search rules in
+    let k : tie.After-ranked-sighting = search rules in
     (lent k).within
 
-slice-aggregate-identified : tie.Need-slice-aggregate-identified
+slice-aggregate-identified : tie.Need-slice_bounds-identified-end
 slice-aggregate-identified c =
-    let k : tie.After-ranked = search rules in
+    let k : tie.After-ranked-sighting = search rules in
     (lent k).part
 
 identified-requires : tie.Need-identified-requires
 identified-requires c κs =
-    let k : tie.After-ranked = search rules in
-    let t : tie.After-enum-told = search rules in
-    ranking-stands (whole k) k.ranked.result k.ranked.ensures.0 t.enum_told.given.1 _ k.ranked.ensures.1
+    let k : tie.After-ranked-sighting = search rules in
+    let t : tie.In-Accepted = search rules in
+    ranking-stands (whole k) k.ranked-sighting.result k.ranked-sighting.ensures.0 t.enum_told-1.given.1 _ k.ranked-sighting.ensures.1
 
-same_length : tie.Need-same-length
+same_length : tie.Need-shape_of-room-in-Refused
 same_length c = search rules
 
-returns : tie.Need-returns
+returns : tie.Need-returns-in-Refused
 returns c =
-    let k : tie.After-ranked = search rules in
-    let o : tie.After-outcome = search rules in
+    let k : tie.After-ranked-sighting = search rules in
+    let o : tie.In-Refused-2 = search rules in
     let w : tie.After-refused = search rules in
-    let q = o.outcome.given.0.0 in
-    let e = outcome-is k o.outcome.given.1 in
-    (w.refused.ensures ∙ sym (refused-tracked (whole k) q e), (k.ranked.ensures.1, nothing-named (whole k) q w.refused.result e w.refused.ensures))
+    let q = o.outcome-1.given.0.0 in
+    let e = outcome-is k o.outcome-1.given.1 in
+    (w.refused.ensures ∙ sym (refused-tracked (whole k) q e), (k.ranked-sighting.ensures.1, nothing-named (whole k) q w.refused.result e w.refused.ensures))
 
-same-length-2 : tie.Need-same-length-2
+same-length-2 : tie.Need-shape_of-room-in-Accepted
 same-length-2 c = search rules
 
-returns-2 : tie.Need-returns-2
+returns-2 : tie.Need-returns-in-Accepted
 returns-2 c =
-    let k : tie.After-ranked = search rules in
-    let t : tie.After-enum-told = search rules in
+    let k : tie.After-ranked-sighting = search rules in
+    let t : tie.In-Accepted = search rules in
     let i : tie.After-identified = search rules in
     let w = whole k in
     let e = i.identified.ensures in (
-      e.0 ∙ ap (λ (r : Report). located_of r w.catalogue w.settings) (report-is k) ∙ sym (accepted-tracked w (outcome-is k t.enum_told.given.1)),
-      (k.ranked.ensures.1, subst (λ (r : Report). Names r w.catalogue w.settings i.identified.result) (report-is k) e.1),
+      e.0 ∙ ap (λ (r : Report). located_of r w.catalogue w.settings) (report-is k) ∙ sym (accepted-tracked w (outcome-is k t.enum_told-1.given.1)),
+      (k.ranked-sighting.ensures.1, subst (λ (r : Report). Names r w.catalogue w.settings i.identified.result) (report-is k) e.1),
     )
 
-pub track-spec : {M : Type 1} → statement M
-track-spec =
+pub track_spec : {M : Type 1} → statement M
+track_spec =
     tie.close
     (tie.spec
     ranked-requires

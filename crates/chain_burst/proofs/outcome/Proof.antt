@@ -11,67 +11,67 @@ use Rattle.chain_burst.proofs.outcome.Statement.{statement}
 use Rattle.chain_burst.proofs.outcome.Tie as tie
 
 -- the sides that the way on has passed
-size-right : (c : tie.Else1) → let a = c.before.before.args in size_out a.width a.height ≡ false
-size-right c = sym c.before.Size-ok.ensures ∙ c.if1.false
+size-right : (c : tie.Else-not-size_ok) → let a = c.before.before.args in size_out a.width a.height ≡ false
+size-right c = sym c.before.Size-ok.ensures ∙ c.if-not-size_ok.false
 
-some : (c : tie.Else1) → let a = c.before.before.args in 0 < a.width * a.height
+some : (c : tie.Else-not-size_ok) → let a = c.before.before.args in 0 < a.width * a.height
 some c = let a = c.before.before.args in size-some a.width a.height (size-right c)
 
-size-ok-requires : tie.Need-size-ok-requires
+size-ok-requires : tie.Need-size_ok-requires
 size-ok-requires c κs = search rules
 
 plain-requires : tie.Need-plain-requires
 plain-requires c κs = search rules
 
-returns : tie.Need-returns
-returns c = c.plain.ensures ∙ sym (size-refused _ _ _ _ (sym c.before.before.Size-ok.ensures ∙ c.before.if1.true))
+returns : tie.Need-returns-then-not-size_ok
+returns c = c.plain.ensures ∙ sym (size-refused _ _ _ _ (sym c.before.before.Size-ok.ensures ∙ c.before.if-not-size_ok.true))
 
-mul-size : tie.Need-overflow-mul-size
+mul-size : tie.Need-overflow_mul-size
 mul-size c = let a = c.before.before.args in omega (arith, size-most a.width a.height (size-right c))
 
-rem-if2 : tie.Need-nonzero-rem-if2
+rem-if2 : tie.Need-nonzero_rem-samples
 rem-if2 c = some c
 
-plain-requires-2 : tie.Need-plain-requires-2
+plain-requires-2 : tie.Need-plain-requires-then-samples-size-ne0
 plain-requires-2 c κs = search rules
 
-returns-2 : tie.Need-returns-2
-returns-2 c = c.plain2.ensures ∙ sym (part-refused _ _ _ _ (size-right c.before.before) c.before.if2.true)
+returns-2 : tie.Need-returns-then-samples-size-ne0
+returns-2 c = c.plain-then-samples-size-ne0.ensures ∙ sym (part-refused _ _ _ _ (size-right c.before.before) c.before.if-samples-size-ne0.true)
 
-mul-if3 : tie.Need-overflow-mul-if3
+mul-if3 : tie.Need-overflow_mul-size-2
 mul-if3 c = let a = c.before.before.before.args in omega (arith, size-most a.width a.height (size-right c.before))
 
-plain-requires-3 : tie.Need-plain-requires-3
+plain-requires-3 : tie.Need-plain-requires-then-size-samples
 plain-requires-3 c κs = search rules
 
-returns-3 : tie.Need-returns-3
+returns-3 : tie.Need-returns-then-size-samples
 returns-3 c =
     let e = c.before.before in
-    c.plain3.ensures ∙ sym (many-refused _ _ _ _ (size-right e.before) e.if2.false c.before.if3.true)
+    c.plain-then-size-samples.ensures ∙ sym (many-refused _ _ _ _ (size-right e.before) e.if-samples-size-ne0.false c.before.if-size-samples.true)
 
-div-if4 : tie.Need-nonzero-div-if4
+div-if4 : tie.Need-nonzero_div-samples
 div-if4 c = some c.before.before
 
-mul-if4 : tie.Need-overflow-mul-if4
-mul-if4 c = let a = c.before.before.before.before.args in omega (arith, frames-few (a.width * a.height) a.samples c.if3.false)
+mul-if4 : tie.Need-overflow_mul-samples
+mul-if4 c = let a = c.before.before.before.before.args in omega (arith, frames-few (a.width * a.height) a.samples c.if-size-samples.false)
 
-plain-requires-4 : tie.Need-plain-requires-4
+plain-requires-4 : tie.Need-plain-requires-then-records-samples
 plain-requires-4 c κs = search rules
 
-returns-4 : tie.Need-returns-4
+returns-4 : tie.Need-returns-then-records-samples
 returns-4 c =
     let t = c.before.before in
     let e = t.before in
-    c.plain4.ensures ∙ sym (room-refused _ _ _ _ (size-right e.before) e.if2.false t.if3.false c.before.if4.true)
+    c.plain-then-records-samples.ensures ∙ sym (room-refused _ _ _ _ (size-right e.before) e.if-samples-size-ne0.false t.if-size-samples.false c.before.if-records-samples.true)
 
-returns-5 : tie.Need-returns-5
+returns-5 : tie.Need-returns
 returns-5 c =
     let t = c.before in
     let e = t.before in
-    sym (none-refused _ _ _ _ (size-right e.before) e.if2.false t.if3.false c.if4.false)
+    sym (none-refused _ _ _ _ (size-right e.before) e.if-samples-size-ne0.false t.if-size-samples.false c.if-records-samples.false)
 
-pub outcome-spec : {M : Type 1} → statement M
-outcome-spec =
+pub outcome_spec : {M : Type 1} → statement M
+outcome_spec =
     tie.close
     (tie.spec
     size-ok-requires

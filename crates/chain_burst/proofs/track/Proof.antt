@@ -21,59 +21,59 @@ start o = o.before.before.before.before.before
 abbrev whole : tie.After-outcome → Call
 whole o = let a = (start o).args in call a.samples.now a.catalogue.now a.settings a.room.now a.records.now
 
-abbrev tested : tie.After-enum-told → tie.After-outcome
+abbrev tested : tie.In-Accepted → tie.After-outcome
 tested c = c.before.before
 
-accepted : (c : tie.After-enum-told) → first_applying (refusals_of (whole (tested c))) ≡ Accepted
-accepted c = sym (tested c).outcome.ensures ∙ c.enum_told.given.1
+accepted : (c : tie.In-Accepted) → first_applying (refusals_of (whole (tested c))) ≡ Accepted
+accepted c = sym (tested c).outcome.ensures ∙ c.enum_told-1.given.1
 
 -- ---- the needs
 
 outcome-requires : tie.Need-outcome-requires
 outcome-requires c κs = search rules
 
-enum-known-r : tie.Need-enum-known-r
+enum-known-r : tie.Need-enum_known-r
 enum-known-r c = search rules
 
-enum_told : tie.Need-enum-told
+enum_told : tie.Need-enum_told-1
 enum_told c = search rules
 
-mul-size : tie.Need-overflow-mul-size
+mul-size : tie.Need-overflow_mul-size
 mul-size c = let s = (start (tested c)).args.settings in omega (arith, size-most s.width s.height (accepted-size _ _ _ _ (accepted c)))
 
-div-count : tie.Need-nonzero-div-count
+div-count : tie.Need-nonzero_div-count
 div-count c = size-some _ _ (accepted-size _ _ _ _ (accepted c))
 
-track-frames-requires : tie.Need-track-frames-requires
+track-frames-requires : tie.Need-track_frames-requires
 track-frames-requires c κs = accepted-whole _ _ _ _ (accepted c.before.before)
 
-returns : tie.Need-returns
+returns : tie.Need-returns-in-Refused
 returns c =
     let k = c.before in
     let o = k.before.before in
     let w = whole o in
-    let e = sym o.outcome.ensures ∙ k.r.given.1 in
-    let q = k.r.given.0.0 in
+    let e = sym o.outcome.ensures ∙ k.r-1.given.1 in
+    let q = k.r-1.given.0.0 in
     let p = in-terms count_answer (sym (refused-answer w q e)) (answers w) in
     (p.0, (p.1, (sym (refused-records w q e), sym (refused-room w q e))))
 
-same_length : tie.Need-same-length
+same_length : tie.Need-shape_of-room
 same_length c = search rules
 
-same-length-2 : tie.Need-same-length-2
+same-length-2 : tie.Need-shape_of-records
 same-length-2 c = search rules
 
-returns-2 : tie.Need-returns-2
+returns-2 : tie.Need-returns-in-Accepted
 returns-2 c =
     let f = c.before.before.before.before in
     let t = f.before.before.before in
     let w = whole (tested t) in
     let e = accepted t in
     let p = in-terms count_answer (sym (accepted-answer w e)) (answers w) in
-    (p.0, (p.1, (f.track-frames.ensures.1 ∙ sym (accepted-records w e), f.track-frames.ensures.0 ∙ sym (accepted-room w e))))
+    (p.0, (p.1, (f.track_frames.ensures.1 ∙ sym (accepted-records w e), f.track_frames.ensures.0 ∙ sym (accepted-room w e))))
 
-pub track-spec : {M : Type 1} → statement M
-track-spec =
+pub track_spec : {M : Type 1} → statement M
+track_spec =
     tie.close
     (tie.spec
     outcome-requires

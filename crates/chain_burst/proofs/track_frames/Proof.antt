@@ -16,50 +16,50 @@ use Rattle.chain_burst.specs.OneMore.{Passed, none_passed, passed-more}
 use Rattle.chain_burst.proofs.track_frames.Statement.{statement}
 use Rattle.chain_burst.proofs.track_frames.Tie as tie
 
-abbrev invariant-loop : tie.invariant-loop
+abbrev invariant-loop : tie.invariant-loop-k
 invariant-loop samples catalogue settings room₀ records₀ size count k₀ room records k =
     (k ≤ count) × (length room ≡ length room₀) × (length records ≡ length records₀) × Passed catalogue settings size samples room₀ records₀ k room records
 
-abbrev decreases-loop : tie.decreases-loop
+abbrev decreases-loop : tie.decreases-loop-k
 decreases-loop samples catalogue settings room₀ records₀ size count k₀ room records k = count - k
 
 -- ---- what each place knows
 
-abbrev start : tie.In-loop invariant-loop decreases-loop → tie.Start invariant-loop decreases-loop
+abbrev start : tie.In-loop-k invariant-loop decreases-loop → tie.Start invariant-loop decreases-loop
 start c = c.before.before.before.before.before.before
 
 -- a frame lies within the samples, and its record within the room
-fits : (c : tie.In-loop invariant-loop decreases-loop) → let a = (start c).args in c.before.loop.k * a.size + a.size ≤ length a.samples.now
+fits : (c : tie.In-loop-k invariant-loop decreases-loop) → let a = (start c).args in c.before.loop-k.k * a.size + a.size ≤ length a.samples.now
 fits c =
     let s = start c in
-    omega (arith, s.pre.whole, frame-fits s.args.size s.args.count c.before.loop.k (omega arith))
+    omega (arith, s.requires.whole, frame-fits s.args.size s.args.count c.before.loop-k.k (omega arith))
 
 -- the part that is lent is frame k
-lent : (c : tie.In-loop invariant-loop decreases-loop)
+lent : (c : tie.In-loop-k invariant-loop decreases-loop)
     → let a = (start c).args in
-    let from = c.before.loop.k * a.size in
-    take (from + a.size - from) (drop from a.samples.now) ≡ frame_at a.size a.samples.now c.before.loop.k
+    let from = c.before.loop-k.k * a.size in
+    take (from + a.size - from) (drop from a.samples.now) ≡ frame_at a.size a.samples.now c.before.loop-k.k
 lent c =
     let a = (start c).args in
-    let from = c.before.loop.k * a.size in
+    let from = c.before.loop-k.k * a.size in
     let e : from + a.size - from ≡ a.size = omega arith in
     ap (λ (n : ℕ). take n (drop from a.samples.now)) e
 
 -- ---- the needs
 
-loop-holds : tie.Need-loop-init invariant-loop decreases-loop
+loop-holds : tie.Need-loop-k-init invariant-loop decreases-loop
 loop-holds c = (search rules, refl, refl, none_passed _ _ _ _ _ _)
 
-mul-from : tie.Need-overflow-mul-from invariant-loop decreases-loop
+mul-from : tie.Need-overflow_mul-from invariant-loop decreases-loop
 mul-from c = omega (arith, fits c)
 
-add-end : tie.Need-overflow-add-end invariant-loop decreases-loop
+add-end : tie.Need-overflow_add-end invariant-loop decreases-loop
 add-end c = omega (arith, fits c)
 
-mul-track : tie.Need-overflow-mul-track invariant-loop decreases-loop
+mul-track : tie.Need-offset_bounds-samples-from invariant-loop decreases-loop
 mul-track c = omega (arith, fits c)
 
-sub-track : tie.Need-overflow-sub-track invariant-loop decreases-loop
+sub-track : tie.Need-slice_bounds-track-count invariant-loop decreases-loop
 sub-track c = omega arith
 
 part-track-start : tie.Need-slice-bounds-track-start invariant-loop decreases-loop
@@ -68,69 +68,69 @@ part-track-start c = omega (arith, fits c)
 part-track-end : tie.Need-slice-bounds-track-end invariant-loop decreases-loop
 part-track-end c = omega (arith, fits c)
 
-track-requires : tie.Need-track-requires invariant-loop decreases-loop
+track-requires : tie.Need-track-tracked-requires invariant-loop decreases-loop
 track-requires c κs = search rules
 
-mul-put : tie.Need-overflow-mul-put invariant-loop decreases-loop
+mul-put : tie.Need-overflow_mul-k invariant-loop decreases-loop
 mul-put c =
     let l = c.before.before.before.before.before.before.before in
-    omega (arith, (start l).requires.room, l.before.loop.invariant.2)
+    omega (arith, (start l).requires.room, l.before.loop-k.invariant.2)
 
 put-requires : tie.Need-put-requires invariant-loop decreases-loop
 put-requires c κs =
     let t = c.before.before.before.before in
     let l = t.before.before.before in
     let a = (start l).args in
-    let single = call (take (l.before.loop.k * a.size + a.size - l.before.loop.k * a.size) (drop (l.before.loop.k * a.size) a.samples.now))
-    a.catalogue.now a.settings l.before.loop.room in (
-      omega (arith, (start l).requires.room, l.before.loop.invariant.2),
-      omega (arith, ap (λ (x : Tracked). (answer_of x.outcome).place) t.track.ensures.0, (tracked-low single).place),
+    let single = call (take (l.before.loop-k.k * a.size + a.size - l.before.loop-k.k * a.size) (drop (l.before.loop-k.k * a.size) a.samples.now))
+    a.catalogue.now a.settings l.before.loop-k.room in (
+      omega (arith, (start l).requires.room, l.before.loop-k.invariant.2),
+      omega (arith, ap (λ (x : Tracked). (answer_of x.outcome).place) t.track-tracked.ensures.0, (tracked-low single).place),
     )
 
-add-k : tie.Need-overflow-add-k invariant-loop decreases-loop
+add-k : tie.Need-overflow_add-k invariant-loop decreases-loop
 add-k c = search rules
 
-loop-less : tie.Need-loop-smaller invariant-loop decreases-loop
+loop-less : tie.Need-loop-k-smaller invariant-loop decreases-loop
 loop-less c = search rules
 
-loop-again : tie.Need-loop-preserved invariant-loop decreases-loop
+loop-again : tie.Need-loop-k-preserved invariant-loop decreases-loop
 loop-again c =
     let p = c.before.before in
     let t = p.before.before.before.before.before in
     let l = t.before.before.before in
     let a = (start l).args in
-    let k = l.before.loop.k in
-    let room = l.before.loop.room in
-    let records = l.before.loop.records in
+    let k = l.before.loop-k.k in
+    let room = l.before.loop-k.room in
+    let records = l.before.loop-k.records in
     let next = passed-more a.catalogue.now a.settings a.size a.samples.now a.room.now a.records.now k room records
-    (omega (arith, (start l).requires.room)) l.before.loop.invariant.3 in
-    let tracked = t.track.ensures.0 ∙ ap (λ (f : List ℕ). tracked_of (call f a.catalogue.now a.settings room)) (lent l) in (
+    (omega (arith, (start l).requires.room)) l.before.loop-k.invariant.3 in
+    let tracked = t.track-tracked.ensures.0 ∙ ap (λ (f : List ℕ). tracked_of (call f a.catalogue.now a.settings room)) (lent l) in (
       omega arith,
       search rules,
       search rules,
       record {
-        ranked = t.track.ensures.1.0 ∙ ap (λ (f : List ℕ). room_after (call f a.catalogue.now a.settings room)) (lent l) ∙ next.ranked;
+        ranked = t.track-tracked.ensures.1.0 ∙ ap (λ (f : List ℕ). room_after (call f a.catalogue.now a.settings room)) (lent l) ∙ next.ranked;
         written = p.put.ensures ∙ ap (λ (x : Tracked). sets records (80 * k) (record_bytes x)) tracked ∙ next.written;
       },
     )
 
-same_length : tie.Need-same-length invariant-loop decreases-loop
+same_length : tie.Need-shape_of-room invariant-loop decreases-loop
 same_length c = search rules
 
-same-length-2 : tie.Need-same-length-2 invariant-loop decreases-loop
+same-length-2 : tie.Need-shape_of-records invariant-loop decreases-loop
 same-length-2 c = search rules
 
 returns : tie.Need-returns invariant-loop decreases-loop
 returns c =
-    let l = c.before.loop in
+    let l = c.before.loop-k in
     let a = c.before.before.before.before.before.before.args in
     let e : l.k ≡ a.count = omega (arith, l.invariant.0) in
     let q = subst (λ (k : ℕ). Passed a.catalogue.now a.settings a.size a.samples.now a.room.now a.records.now k l.room l.records) e
     l.invariant.3 in
     (q.ranked, q.written)
 
-pub track-frames-spec : {M : Type 1} → statement M
-track-frames-spec =
+pub track_frames_spec : {M : Type 1} → statement M
+track_frames_spec =
     tie.close
     (tie.spec
     invariant-loop

@@ -22,86 +22,86 @@ use Rattle.chain_by_index.proofs.track.Tie as tie
 
 -- ---- what each place knows
 
-abbrev start : tie.After-take-sights → tie.Start
+abbrev start : tie.After-take_sights-sighting → tie.Start
 start t = search rules
 
-abbrev whole : tie.After-take-sights → Call
+abbrev whole : tie.After-take_sights-sighting → Call
 whole t = let a = (start t).args in call a.samples.now a.catalogue.now a.index.now a.floor a.settings a.room.now
 
-report-is : (t : tie.After-take-sights) → t.take-sights.result.report ≡ (listed (whole t).chain).report
-report-is t = ap (λ (x : Sighting). x.report) t.take-sights.ensures
+report-is : (t : tie.After-take_sights-sighting) → t.take_sights-sighting.result.report ≡ (listed (whole t).chain).report
+report-is t = ap (λ (x : Sighting). x.report) t.take_sights-sighting.ensures
 
 -- the stars' own outcome, by the floor as it was handed in
-stars-is : (t : tie.After-take-sights) → let c = whole t in t.before.stars-outcome.result
+stars-is : (t : tie.After-take_sights-sighting) → let c = whole t in t.before.stars_outcome-stars.result
     ≡ first_applying (stars_rows c.chain.catalogue c.index c.floor)
 stars-is t =
     let s = start t in
-    t.before.stars-outcome.ensures ∙ ap (λ (f : ℤ). first_applying (stars_rows s.args.catalogue.now s.args.index.now f))
+    t.before.stars_outcome-stars.ensures ∙ ap (λ (f : ℤ). first_applying (stars_rows s.args.catalogue.now s.args.index.now f))
     (to_z-of_z w64 s.args.floor s.fits.floor)
 
 -- the code's outcome is that of the rows
-outcome-is : (t : tie.After-take-sights) {o : Outcome} → t.take-sights.result.outcome ≡ o → first_applying (refusals_of (whole t)) ≡ o
+outcome-is : (t : tie.After-take_sights-sighting) {o : Outcome} → t.take_sights-sighting.result.outcome ≡ o → first_applying (refusals_of (whole t)) ≡ o
 outcome-is t h =
     let c = whole t in
     refusals-joined c
     ∙ (λ i. (sighting_of c.chain.samples (sym (stars-is t) i) c.chain.settings (length c.chain.room)).outcome)
-    ∙ sym (ap (λ (x : Sighting). x.outcome) t.take-sights.ensures)
+    ∙ sym (ap (λ (x : Sighting). x.outcome) t.take_sights-sighting.ensures)
     ∙ h
 
 -- ---- the needs
 
-stars-outcome-requires : tie.Need-stars-outcome-requires
+stars-outcome-requires : tie.Need-stars_outcome-stars-requires
 stars-outcome-requires c κs = search rules
 
-take-sights-requires : tie.Need-take-sights-requires
+take-sights-requires : tie.Need-take_sights-sighting-requires
 take-sights-requires c κs = search rules
 
-enum-known-outcome : tie.Need-enum-known-outcome
+enum-known-outcome : tie.Need-enum_known-outcome
 enum-known-outcome c = search rules
 
 refused-requires : tie.Need-refused-requires
 refused-requires c κs = search rules
 
-enum_told : tie.Need-enum-told
+enum_told : tie.Need-enum_told-1
 enum_told c = search rules
 
 located-requires : tie.Need-located-requires
 located-requires c κs =
-    let t : tie.After-take-sights = search rules in
-    let o : tie.After-enum-told = search rules in
+    let t : tie.After-take_sights-sighting = search rules in
+    let o : tie.In-Accepted = search rules in
     let w = whole t in
     let s = start t in
-    let h = outcome-is t o.enum_told.given.1 in (
+    let h = outcome-is t o.enum_told-1.given.1 in (
       subst (λ (r : Report). Ready r w.chain.catalogue w.chain.settings w.chain.room) (sym (report-is t)) (ready w.chain (accepted-plain w h)),
       (
-        ap (λ (x : Sighting). x.directions) t.take-sights.ensures ∙ ap (λ (r : Report). padded_sights r w.chain.settings) (sym (report-is t)),
+        ap (λ (x : Sighting). x.directions) t.take_sights-sighting.ensures ∙ ap (λ (r : Report). padded_sights r w.chain.settings) (sym (report-is t)),
         accepted-right w h ∙ ap (index_of (stars_of w.chain.catalogue)) (sym (to_z-of_z w64 s.args.floor s.fits.floor)),
       ),
     )
 
-returns : tie.Need-returns
+returns : tie.Need-returns-in-Refused
 returns c =
-    let t : tie.After-take-sights = search rules in
-    let o : tie.After-outcome = search rules in
-    let e = outcome-is t o.outcome.given.1 in
-    let q = o.outcome.given.0.0 in
+    let t : tie.After-take_sights-sighting = search rules in
+    let o : tie.In-Refused-2 = search rules in
+    let e = outcome-is t o.outcome-1.given.1 in
+    let q = o.outcome-1.given.0.0 in
     (c.refused.ensures ∙ sym (refused-tracked (whole t) q e), sym (refused-room (whole t) q e))
 
-same_length : tie.Need-same-length
+same_length : tie.Need-shape_of-room
 same_length c = search rules
 
-returns-2 : tie.Need-returns-2
+returns-2 : tie.Need-returns-in-Accepted
 returns-2 c =
     let l = c.before.before in
-    let t : tie.After-take-sights = search rules in
-    let o : tie.After-enum-told = search rules in
+    let t : tie.After-take_sights-sighting = search rules in
+    let o : tie.In-Accepted = search rules in
     let w = whole t in
-    let h = outcome-is t o.enum_told.given.1 in
+    let h = outcome-is t o.enum_told-1.given.1 in
     let e = l.located.ensures in (
       e.0 ∙ ap (λ (r : Report). located_of r w.chain.catalogue w.chain.settings) (report-is t) ∙ sym (accepted-tracked w h),
       e.1 ∙ ap (λ (r : Report). ranked_room r w.chain.catalogue w.chain.settings w.chain.room) (report-is t) ∙ sym (accepted-room w h),
     )
 
-pub track-spec : {M : Type 1} → statement M
-track-spec = tie.close (tie.spec stars-outcome-requires take-sights-requires enum-known-outcome refused-requires enum_told located-requires returns same_length
+pub track_spec : {M : Type 1} → statement M
+track_spec = tie.close (tie.spec stars-outcome-requires take-sights-requires enum-known-outcome refused-requires enum_told located-requires returns same_length
     returns-2)

@@ -5,35 +5,35 @@ use lib.Seq.{length-take-le}
 use Rattle.desk.proofs.trim.Statement.{statement}
 use Rattle.desk.proofs.trim.Tie as tie
 
-slice-aggregate-cut-text : tie.Need-slice-aggregate-cut-text
+slice-aggregate-cut-text : tie.Need-slice_bounds-cut_text-end
 slice-aggregate-cut-text c = search rules
 
-cut-text-requires : tie.Need-cut-text-requires
+cut-text-requires : tie.Need-cut_text-made-requires
 cut-text-requires c κs = search rules
 
-slice-reshare-prefix-keep : tie.Need-slice-reshare-prefix-keep
+slice-reshare-prefix-keep : tie.Need-slice_bounds-keep-end
 slice-reshare-prefix-keep c = search rules
 
-slice-aggregate-keep : tie.Need-slice-aggregate-keep
+slice-aggregate-keep : tie.Need-slice_bounds-keep-end-2
 slice-aggregate-keep c = sym (length-take-le _ _ (slice-reshare-prefix-keep c.before))
 
-array-share-prefix-line : tie.Need-array-share-prefix-line
+array-share-prefix-line : tie.Need-slice_bounds-line-end
 array-share-prefix-line c = search rules
 
-slice-aggregate-keep-2 : tie.Need-slice-aggregate-keep-2
+slice-aggregate-keep-2 : tie.Need-slice_bounds-keep-end-3
 slice-aggregate-keep-2 c = sym (length-take-le _ _ (array-share-prefix-line c.before))
 
 keep-requires : tie.Need-keep-requires
 keep-requires c κs = search rules
 
-same_length : tie.Need-same-length
+same_length : tie.Need-shape_of-catalogue
 same_length c = search rules
 
 returns : tie.Need-returns
 returns c = search rules
 
-pub trim-spec : {M : Type 1} → statement M
-trim-spec =
+pub trim_spec : {M : Type 1} → statement M
+trim_spec =
     tie.close
     (tie.spec
     slice-aggregate-cut-text

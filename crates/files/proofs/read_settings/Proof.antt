@@ -19,53 +19,53 @@ use Rattle.files.specs.declared.Reading.TheVariants.{Read}
 use Rattle.files.proofs.read_settings.Statement.{statement}
 use Rattle.files.proofs.read_settings.Tie as tie
 
-returns : tie.Need-returns
+returns : tie.Need-returns-then-bytes-ne-SETTINGS_SIZE
 unfolding reading_of
-returns c = (simp (ne_eqb _ _ c.if1.true), length-told c.before.before.args.bytes.now c.if1.true)
+returns c = (simp (ne_eqb _ _ c.if-bytes-ne-SETTINGS_SIZE.true), length-told c.before.before.args.bytes.now c.if-bytes-ne-SETTINGS_SIZE.true)
 
-u16-at-requires : tie.Need-u16-at-requires
+u16-at-requires : tie.Need-u16_at-requires
 u16-at-requires c κs = search rules
 
-cast-t2 : tie.Need-overflow-cast-t2
+cast-t2 : tie.Need-overflow_cast-result
 cast-t2 c = search rules
 
-u16-at-requires-2 : tie.Need-u16-at-requires-2
+u16-at-requires-2 : tie.Need-u16_at-requires-2
 u16-at-requires-2 c κs = search rules
 
-cast-t7 : tie.Need-overflow-cast-t7
+cast-t7 : tie.Need-overflow_cast-result-2
 cast-t7 c = search rules
 
-u16-at-requires-3 : tie.Need-u16-at-requires-3
+u16-at-requires-3 : tie.Need-u16_at-requires-3
 u16-at-requires-3 c κs = search rules
 
-cast-t9 : tie.Need-overflow-cast-t9
+cast-t9 : tie.Need-overflow_cast-result-3
 cast-t9 c = search rules
 
-u16-at-requires-4 : tie.Need-u16-at-requires-4
+u16-at-requires-4 : tie.Need-u16_at-requires-4
 u16-at-requires-4 c κs = search rules
 
-cast-t11 : tie.Need-overflow-cast-t11
+cast-t11 : tie.Need-overflow_cast-result-4
 cast-t11 c = search rules
 
-u32-at-requires : tie.Need-u32-at-requires
+u32-at-requires : tie.Need-u32_at-requires
 u32-at-requires c κs = search rules
 
-cast-t13 : tie.Need-overflow-cast-t13
+cast-t13 : tie.Need-overflow_cast-result-5
 cast-t13 c = search rules
 
-u32-at-requires-2 : tie.Need-u32-at-requires-2
+u32-at-requires-2 : tie.Need-u32_at-requires-2
 u32-at-requires-2 c κs = search rules
 
-cast-t15 : tie.Need-overflow-cast-t15
+cast-t15 : tie.Need-overflow_cast-result-6
 cast-t15 c = search rules
 
-u32-at-requires-3 : tie.Need-u32-at-requires-3
+u32-at-requires-3 : tie.Need-u32_at-requires-3
 u32-at-requires-3 c κs = search rules
 
-of-settings-requires : tie.Need-of-settings-requires
+of-settings-requires : tie.Need-of_settings-requires
 of-settings-requires c κs = search rules
 
-u64-at-requires : tie.Need-u64-at-requires
+u64-at-requires : tie.Need-u64_at-requires
 u64-at-requires c κs = search rules
 
 -- a file of 32 bytes is read
@@ -77,7 +77,7 @@ read_whole bytes h = simp (eq-eqb (length bytes) 32 h)
 place : {n m : ℕ} → n ≡ m → n < 4294967296 → to_z w64 n ≡ pos m
 place {n} e h = to_z_pos w64 n (omega arith) ∙ ap pos e
 
-returns-2 : tie.Need-returns-2
+returns-2 : tie.Need-returns
 unfolding settings_of
 returns-2 c =
     let lens = c.before in
@@ -88,25 +88,25 @@ returns-2 c =
     let n3 = n4.before in
     let n2 = n3.before in
     let n1 = n2.before in
-    let whole = n1.before.if1.false in
-    let focal : number_at n1.before.before.before.args.bytes.now 16 4 < 2 ^ 53 = omega (arith, n7.u32-at3.type-inv, n7.u32-at3.ensures) in
+    let whole = n1.before.if-bytes-ne-SETTINGS_SIZE.false in
+    let focal : number_at n1.before.before.before.args.bytes.now 16 4 < 2 ^ 53 = omega (arith, n7.u32_at-3.type_inv, n7.u32_at-3.ensures) in
     let read : _ ≡ Read (settings_of n1.before.before.before.args.bytes.now) =
     (λ i.
     Read
     (record {
-      width = n1.u16-at.ensures i;
-      height = n2.u16-at2.ensures i;
-      threshold = n3.u16-at3.ensures i;
-      needed = n4.u16-at4.ensures i;
-      cx = place n5.u32-at.ensures n5.u32-at.type-inv i;
-      cy = place n6.u32-at2.ensures n6.u32-at2.type-inv i;
-      lens = (lens.of-settings.ensures ∙ ap settings_lens n7.u32-at3.ensures) i;
-      tolerance = c.u64-at.ensures i;
+      width = n1.u16_at.ensures i;
+      height = n2.u16_at-2.ensures i;
+      threshold = n3.u16_at-3.ensures i;
+      needed = n4.u16_at-4.ensures i;
+      cx = place n5.u32_at.ensures n5.u32_at.type_inv i;
+      cy = place n6.u32_at-2.ensures n6.u32_at-2.type_inv i;
+      lens = (lens.of_settings.ensures ∙ ap settings_lens n7.u32_at-3.ensures) i;
+      tolerance = c.u64_at.ensures i;
     })) in
     (read ∙ sym (read_whole _ whole), ap (λ (r : Reading). reading_answer r) read ∙ read_told _ whole focal)
 
-pub read-settings-spec : {M : Type 1} → statement M
-read-settings-spec =
+pub read_settings_spec : {M : Type 1} → statement M
+read_settings_spec =
     tie.close
     (tie.spec
     returns

@@ -11,41 +11,41 @@ use Rattle.files.proofs.sample_count.Tie as tie
 sides : {w h : ℕ} → w ≤ 1024 → h ≤ 1024 → w * h ≤ 1048576
 sides p q = mul-le-mul p q
 
-returns : tie.Need-returns
+returns : tie.Need-returns-then-width-gt1024
 unfolding sample_count
-returns c = simp (lt-leb _ _ c.if1.true)
+returns c = simp (lt-leb _ _ c.if-width-gt1024.true)
 
-returns-2 : tie.Need-returns-2
+returns-2 : tie.Need-returns-then-height-gt1024
 unfolding sample_count
-returns-2 c = simp (le-leb _ _ c.before.if1.false, lt-leb _ _ c.if2.true)
+returns-2 c = simp (le-leb _ _ c.before.if-width-gt1024.false, lt-leb _ _ c.if-height-gt1024.true)
 
-mul-count : tie.Need-overflow-mul-count
-mul-count c = omega (arith, sides c.before.if1.false c.if2.false)
+mul-count : tie.Need-overflow_mul-count
+mul-count c = omega (arith, sides c.before.if-width-gt1024.false c.if-height-gt1024.false)
 
-mul-if3 : tie.Need-overflow-mul-if3
-mul-if3 c = omega (arith, sides c.before.if1.false c.if2.false)
+mul-if3 : tie.Need-overflow_mul-count-2
+mul-if3 c = omega (arith, sides c.before.if-width-gt1024.false c.if-height-gt1024.false)
 
-returns-3 : tie.Need-returns-3
+returns-3 : tie.Need-returns-then-len-count
 unfolding sample_count
-returns-3 c = simp (le-leb _ _ c.before.before.if1.false, le-leb _ _ c.before.if2.false, ne_eqb _ _ c.if3.true)
+returns-3 c = simp (le-leb _ _ c.before.before.if-width-gt1024.false, le-leb _ _ c.before.if-height-gt1024.false, ne_eqb _ _ c.if-len-count.true)
 
-returns-4 : tie.Need-returns-4
+returns-4 : tie.Need-returns-then-count-gt-MOST_SAMPLES
 unfolding sample_count
 returns-4 c = simp (
-  le-leb _ _ c.before.before.before.if1.false,
-  le-leb _ _ c.before.before.if2.false,
-  eq-eqb _ _ c.before.if3.false,
-  lt-leb _ _ c.if4.true,
+  le-leb _ _ c.before.before.before.if-width-gt1024.false,
+  le-leb _ _ c.before.before.if-height-gt1024.false,
+  eq-eqb _ _ c.before.if-len-count.false,
+  lt-leb _ _ c.if-count-gt-MOST_SAMPLES.true,
 )
 
-returns-5 : tie.Need-returns-5
+returns-5 : tie.Need-returns
 unfolding sample_count
 returns-5 c = simp (
-  le-leb _ _ c.before.before.before.if1.false,
-  le-leb _ _ c.before.before.if2.false,
-  eq-eqb _ _ c.before.if3.false,
-  le-leb _ _ c.if4.false,
+  le-leb _ _ c.before.before.before.if-width-gt1024.false,
+  le-leb _ _ c.before.before.if-height-gt1024.false,
+  eq-eqb _ _ c.before.if-len-count.false,
+  le-leb _ _ c.if-count-gt-MOST_SAMPLES.false,
 )
 
-pub sample-count-spec : {M : Type 1} → statement M
-sample-count-spec = tie.close (tie.spec returns returns-2 mul-count mul-if3 returns-3 returns-4 returns-5)
+pub sample_count_spec : {M : Type 1} → statement M
+sample_count_spec = tie.close (tie.spec returns returns-2 mul-count mul-if3 returns-3 returns-4 returns-5)

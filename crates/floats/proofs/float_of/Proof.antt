@@ -21,14 +21,14 @@ above n h = nan_is (of_bits binary64 n) (sym (nan_bits_is binary64 n) ∙ nan_bi
 at_most : (n : ℕ) → n % 0x8000_0000_0000_0000 ≤ 0x7ff0_0000_0000_0000 → nan_bits binary64 n ≡ false
 at_most n h = nan_bits_above binary64 n ∙ le-ltb 0x7ff0_0000_0000_0000 (n % 0x8000_0000_0000_0000) h
 
-returns : tie.Need-returns
-returns c = made ∙ sym (above c.before.args.bits c.if1.true)
+returns : tie.Need-returns-then-bits-gt9218868437227405312
+returns c = made ∙ sym (above c.before.args.bits c.if-bits-gt9218868437227405312.true)
 
-float-from-bits-result : tie.Need-float-from-bits-result
-float-from-bits-result c = subst (λ (b : Bool). T (not b)) (sym (at_most c.before.args.bits c.if1.false)) tt
+float-from-bits-result : tie.Need-float_from_bits-result
+float-from-bits-result c = subst (λ (b : Bool). T (not b)) (sym (at_most c.before.args.bits c.if-bits-gt9218868437227405312.false)) tt
 
-returns-2 : tie.Need-returns-2
+returns-2 : tie.Need-returns
 returns-2 c = search rules
 
-pub float-of-spec : {M : Type 1} → statement M
-float-of-spec = tie.close (tie.spec returns float-from-bits-result returns-2)
+pub float_of_spec : {M : Type 1} → statement M
+float_of_spec = tie.close (tie.spec returns float-from-bits-result returns-2)

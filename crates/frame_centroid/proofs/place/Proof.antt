@@ -8,47 +8,47 @@ use Rattle.frame_centroid.specs.Moments.{position}
 use Rattle.frame_centroid.proofs.place.Statement.{statement}
 use Rattle.frame_centroid.proofs.place.Tie as tie
 
-mul-whole : tie.Need-overflow-mul-whole
+mul-whole : tie.Need-overflow_mul-whole
 mul-whole c = search rules
 
-mul-middle : tie.Need-overflow-mul-middle
+mul-middle : tie.Need-overflow_mul-middle
 mul-middle c = search rules
 
-mul-result : tie.Need-overflow-mul-result
+mul-result : tie.Need-overflow_mul-result
 mul-result c = search rules
 
-div-result : tie.Need-nonzero-div-result
+div-result : tie.Need-nonzero_div-result
 div-result c = search rules
 
-add-result : tie.Need-overflow-add-result
+add-result : tie.Need-overflow_add-result
 add-result c =
     let a = c.before.args in
     omega (arith, quotient-small (a.moment - 2 * a.brightness) a.brightness (omega arith))
 
-sub-result : tie.Need-overflow-sub-result
+sub-result : tie.Need-overflow_sub-result-else-middle-moment
 sub-result c = search rules
 
-mul-result-2 : tie.Need-overflow-mul-result-2
+mul-result-2 : tie.Need-overflow_mul-result-else-middle-moment
 mul-result-2 c = search rules
 
-div-result-2 : tie.Need-nonzero-div-result-2
+div-result-2 : tie.Need-nonzero_div-result-else-middle-moment
 div-result-2 c = search rules
 
-sub-result-2 : tie.Need-overflow-sub-result-2
+sub-result-2 : tie.Need-overflow_sub-result-else-middle-moment-2
 sub-result-2 c =
     let a = c.before.args in
     omega (arith, quotient-small (2 * a.brightness - a.moment) a.brightness (omega arith))
 
-returns : tie.Need-returns
+returns : tie.Need-returns-then-middle-moment
 unfolding position
-returns c = simp (le-leb _ _ c.if1.true)
+returns c = simp (le-leb _ _ c.if-middle-moment.true)
 
-returns-2 : tie.Need-returns-2
+returns-2 : tie.Need-returns-else-middle-moment
 unfolding position
-returns-2 c = simp (lt-leb _ _ c.if1.false)
+returns-2 c = simp (lt-leb _ _ c.if-middle-moment.false)
 
-pub place-spec : {M : Type 1} → statement M
-place-spec =
+pub place_spec : {M : Type 1} → statement M
+place_spec =
     tie.close
     (tie.spec
     mul-whole

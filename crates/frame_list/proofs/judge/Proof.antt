@@ -19,34 +19,34 @@ module _ (s : tie.Start) where
       s.args.column)
   both e = in-terms judgement_answer e (answers s.args.samples.now s.args.width s.args.height s.args.threshold s.args.row s.args.column)
 
-pixel-outcome-requires : tie.Need-pixel-outcome-requires
+pixel-outcome-requires : tie.Need-pixel_outcome-outcome-requires
 pixel-outcome-requires c κs = search rules
 
-enum-known-outcome : tie.Need-enum-known-outcome
+enum-known-outcome : tie.Need-enum_known-outcome
 enum-known-outcome c = search rules
 
-enum_told : tie.Need-enum-told
+enum_told : tie.Need-enum_told-1
 enum_told c = search rules
 
-verdict-at-requires : tie.Need-verdict-at-requires
+verdict-at-requires : tie.Need-verdict_at-judged-requires
 verdict-at-requires c κs =
     let a = c.before.before.before.before.args in
-    let v = accepted-pixel a.samples.now a.width a.height a.threshold a.row a.column (sym c.before.before.pixel-outcome.ensures.0
-    ∙ c.enum_told.given.1) in
+    let v = accepted-pixel a.samples.now a.width a.height a.threshold a.row a.column (sym c.before.before.pixel_outcome-outcome.ensures.0
+    ∙ c.enum_told-1.given.1) in
     (v.0.whole, v.1, v.2, v.0.high.1, v.0.wide.1)
 
-returns : tie.Need-returns
+returns : tie.Need-returns-in-Refused
 unfolding judgement_of
-returns c = both c.before.before.before.before.before (rw (sym c.before.before.before.pixel-outcome.ensures.0 ∙ c.before.outcome.given.1))
+returns c = both c.before.before.before.before.before (rw (sym c.before.before.before.pixel_outcome-outcome.ensures.0 ∙ c.before.outcome-1.given.1))
 
-returns-2 : tie.Need-returns-2
+returns-2 : tie.Need-returns-in-Accepted
 unfolding judgement_of
 returns-2 c =
     both c.before.before.before.before.before
-    (rw (sym c.before.before.before.pixel-outcome.ensures.0 ∙ c.before.enum_told.given.1, c.verdict-at.ensures))
+    (rw (sym c.before.before.before.pixel_outcome-outcome.ensures.0 ∙ c.before.enum_told-1.given.1, c.verdict_at-judged.ensures))
 
-pub judge-spec : {M : Type 1} → statement M
-judge-spec =
+pub judge_spec : {M : Type 1} → statement M
+judge_spec =
     tie.close
     (tie.spec
     pixel-outcome-requires

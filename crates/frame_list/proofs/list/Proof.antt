@@ -6,40 +6,40 @@ use Rattle.frame_list.specs.Calls.{listing_of}
 use Rattle.frame_list.proofs.list.Statement.{statement}
 use Rattle.frame_list.proofs.list.Tie as tie
 
-frame-outcome-requires : tie.Need-frame-outcome-requires
+frame-outcome-requires : tie.Need-frame_outcome-outcome-requires
 frame-outcome-requires c κs = search rules
 
-enum_told : tie.Need-enum-told
+enum_told : tie.Need-enum_told-1
 enum_told c = search rules
 
 none-requires : tie.Need-none-requires
 none-requires c κs = search rules
 
-enum-told-2 : tie.Need-enum-told-2
+enum-told-2 : tie.Need-enum_told-in-Accepted
 enum-told-2 c = search rules
 
-report-of-requires : tie.Need-report-of-requires
+report-of-requires : tie.Need-report_of-requires
 report-of-requires c κs =
     let a = c.before.before.before.before.args in
-    let v = accepted-valid a.samples.now a.width a.height a.threshold (sym c.before.before.frame-outcome.ensures.0
-    ∙ c.enum-told2.given.1) in
+    let v = accepted-valid a.samples.now a.width a.height a.threshold (sym c.before.before.frame_outcome-outcome.ensures.0
+    ∙ c.enum_told-in-Accepted-1.given.1) in
     (v.whole, v.high.1, v.wide.1)
 
-returns : tie.Need-returns
+returns : tie.Need-returns-in-Refused
 unfolding listing_of
 returns c =
-    let o = c.before.before.before.frame-outcome in
-    let g = c.before.enum_told.given.1 in
+    let o = c.before.before.before.frame_outcome-outcome in
+    let g = c.before.enum_told-1.given.1 in
     rw (c.none.ensures, g, sym o.ensures.0 ∙ g)
 
-returns-2 : tie.Need-returns-2
+returns-2 : tie.Need-returns-in-Accepted
 unfolding listing_of
 returns-2 c =
-    let o = c.before.before.before.frame-outcome in
-    let g = c.before.enum-told2.given.1 in
-    rw (c.report-of.ensures, g, sym o.ensures.0 ∙ g)
+    let o = c.before.before.before.frame_outcome-outcome in
+    let g = c.before.enum_told-in-Accepted-1.given.1 in
+    rw (c.report_of.ensures, g, sym o.ensures.0 ∙ g)
 
-pub list-spec : {M : Type 1} → statement M
-list-spec =
+pub list_spec : {M : Type 1} → statement M
+list_spec =
     tie.close
     (tie.spec frame-outcome-requires enum_told none-requires enum-told-2 report-of-requires returns returns-2)

@@ -5,38 +5,38 @@ use borrow.Author.Rules.{rules}
 use Rattle.frame_reason.proofs.kind_of.Statement.{statement}
 use Rattle.frame_reason.proofs.kind_of.Tie as tie
 
-enum_told : tie.Need-enum-told
+enum_told : tie.Need-enum_told-1
 enum_told c = search rules
 
-enum-told-2 : tie.Need-enum-told-2
+enum-told-2 : tie.Need-enum_told-in-Beaten
 enum-told-2 c = search rules
 
-enum-told-3 : tie.Need-enum-told-3
+enum-told-3 : tie.Need-enum_told-in-Edge
 enum-told-3 c = search rules
 
-enum-told-4 : tie.Need-enum-told-4
+enum-told-4 : tie.Need-enum_told-in-Lone
 enum-told-4 c = search rules
 
-enum-known-reason : tie.Need-enum-known-reason
+enum-known-reason : tie.Need-enum_known-reason
 enum-known-reason c = search rules
 
-returns : tie.Need-returns
+returns : tie.Need-returns-in-Dark
 returns c = search rules
 
-returns-2 : tie.Need-returns-2
+returns-2 : tie.Need-returns-in-Beaten
 returns-2 c = search rules
 
-returns-3 : tie.Need-returns-3
+returns-3 : tie.Need-returns-in-Edge
 returns-3 c = search rules
 
-returns-4 : tie.Need-returns-4
+returns-4 : tie.Need-returns-in-Lone
 returns-4 c = search rules
 
-returns-5 : tie.Need-returns-5
-returns-5 c = ap kind_in (sym c.before.reason.given.1)
+returns-5 : tie.Need-returns-in-Measured
+returns-5 c = ap kind_in (sym c.before.reason-1.given.1)
 
-pub kind-of-spec : {M : Type 1} → statement M
-kind-of-spec =
+pub kind_of_spec : {M : Type 1} → statement M
+kind_of_spec =
     tie.close
     (tie.spec
     enum_told

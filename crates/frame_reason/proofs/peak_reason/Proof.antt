@@ -62,49 +62,49 @@ module _ (samples : List ℕ) (width height threshold row column : ℕ) where
       go false true e = let t : tag k ≡ 3 = ap tag e in absurd (omega arith)
       go false false e = let t : tag k ≡ 4 = ap tag e in absurd (omega arith)
 
-peak-kind-requires : tie.Need-peak-kind-requires
+peak-kind-requires : tie.Need-peak_kind-kind-requires
 peak-kind-requires c κs = search rules
 
-enum-known-kind : tie.Need-enum-known-kind
+enum-known-kind : tie.Need-enum_known-kind
 enum-known-kind c = search rules
 
-enum_told : tie.Need-enum-told
+enum_told : tie.Need-enum_told-1
 enum_told c = search rules
 
-largest-beside-requires : tie.Need-largest-beside-requires
+largest-beside-requires : tie.Need-largest_beside-requires
 largest-beside-requires c κs =
-    let p : tie.After-peak-kind = search rules in
-    let t = peak-lone _ _ _ _ _ _ (sym p.peak-kind.ensures ∙ c.enum_told.given.1) in
+    let p : tie.After-peak_kind-kind = search rules in
+    let t = peak-lone _ _ _ _ _ _ (sym p.peak_kind-kind.ensures ∙ c.enum_told-1.given.1) in
     let m = amid _ _ _ _ (inside _ _ _ _ t.0) in
     search rules
 
-first-side-requires : tie.Need-first-side-requires
+first-side-requires : tie.Need-first_side-requires
 first-side-requires c κs = search rules
 
-returns : tie.Need-returns
+returns : tie.Need-returns-in-Measured
 returns c =
     let p = c.before.before.before in
     let a = p.before.before.args in
-    measured-is _ _ (peak-kind-is a.samples.now a.width a.height a.threshold a.row a.column ∙ sym p.peak-kind.ensures
-    ∙ c.before.kind.given.1)
+    measured-is _ _ (peak-kind-is a.samples.now a.width a.height a.threshold a.row a.column ∙ sym p.peak_kind-kind.ensures
+    ∙ c.before.kind-1.given.1)
 
-returns-2 : tie.Need-returns-2
+returns-2 : tie.Need-returns-in-Lone
 returns-2 c =
-    let p : tie.After-peak-kind = search rules in
+    let p : tie.After-peak_kind-kind = search rules in
     let a = p.before.before.args in
-    ap Lone c.largest-beside.ensures
-    ∙ lone_is a.samples.now a.width a.height a.threshold a.row a.column (sym p.peak-kind.ensures ∙ c.before.enum_told.given.1)
+    ap Lone c.largest_beside.ensures
+    ∙ lone_is a.samples.now a.width a.height a.threshold a.row a.column (sym p.peak_kind-kind.ensures ∙ c.before.enum_told-1.given.1)
 
-returns-3 : tie.Need-returns-3
+returns-3 : tie.Need-returns-in_default
 returns-3 c =
     let p = c.before.before in
     let a = p.before.before.args in
-    ap Edge c.first-side.ensures
-    ∙ edge-is a.samples.now a.width a.height a.threshold a.row a.column p.peak-kind.result (below _ c.before.match.keys3)
-    p.peak-kind.ensures
+    ap Edge c.first_side.ensures
+    ∙ edge-is a.samples.now a.width a.height a.threshold a.row a.column p.peak_kind-kind.result (below _ c.before.match.keys3)
+    p.peak_kind-kind.ensures
 
-pub peak-reason-spec : {M : Type 1} → statement M
-peak-reason-spec =
+pub peak_reason_spec : {M : Type 1} → statement M
+peak_reason_spec =
     tie.close
     (tie.spec
     peak-kind-requires

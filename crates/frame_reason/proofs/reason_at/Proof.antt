@@ -7,47 +7,47 @@ use borrow.Author.Rules.{rules}
 use Rattle.frame_reason.proofs.reason_at.Statement.{statement}
 use Rattle.frame_reason.proofs.reason_at.Tie as tie
 
-sample-requires : tie.Need-sample-requires
+sample-requires : tie.Need-sample-sample-requires
 sample-requires c κs = search rules
 
-cast-if1 : tie.Need-overflow-cast-if1
+cast-if1 : tie.Need-overflow_cast-sample
 cast-if1 c = search rules
 
-returns : tie.Need-returns
+returns : tie.Need-returns-then-sample-threshold
 unfolding reason_of
-returns c = rw (← c.before.sample.ensures, lt-ltb _ _ c.if1.true)
+returns c = rw (← c.before.sample-sample.ensures, lt-ltb _ _ c.if-sample-threshold.true)
 
-first-beating-requires : tie.Need-first-beating-requires
+first-beating-requires : tie.Need-first_beating-beating-requires
 first-beating-requires c κs = search rules
 
-enum-known-beating : tie.Need-enum-known-beating
+enum-known-beating : tie.Need-enum_known-beating
 enum-known-beating c = search rules
 
-enum_told : tie.Need-enum-told
+enum_told : tie.Need-enum_told-1
 enum_told c = search rules
 
-peak-reason-requires : tie.Need-peak-reason-requires
+peak-reason-requires : tie.Need-peak_reason-requires
 peak-reason-requires c κs =
     let b = c.before.before in
-    let u = nothing-unbeaten _ _ _ _ _ (sym b.first-beating.ensures ∙ c.enum_told.given.1) in
+    let u = nothing-unbeaten _ _ _ _ _ (sym b.first_beating-beating.ensures ∙ c.enum_told-1.given.1) in
     search rules
 
-returns-2 : tie.Need-returns-2
+returns-2 : tie.Need-returns-in-At
 unfolding reason_of
 returns-2 c =
     let b = c.before.before.before in
     let e = b.before in
-    rw (← e.before.sample.ensures, le-ltb _ _ e.if1.false, sym b.first-beating.ensures ∙ c.before.beating.given.1)
+    rw (← e.before.sample-sample.ensures, le-ltb _ _ e.if-sample-threshold.false, sym b.first_beating-beating.ensures ∙ c.before.beating-1.given.1)
 
-returns-3 : tie.Need-returns-3
+returns-3 : tie.Need-returns-in-Nothing
 unfolding reason_of
 returns-3 c =
     let b = c.before.before.before in
     let e = b.before in
-    rw (← e.before.sample.ensures, le-ltb _ _ e.if1.false, sym b.first-beating.ensures ∙ c.before.enum_told.given.1) c.peak-reason.ensures
+    rw (← e.before.sample-sample.ensures, le-ltb _ _ e.if-sample-threshold.false, sym b.first_beating-beating.ensures ∙ c.before.enum_told-1.given.1) c.peak_reason.ensures
 
-pub reason-at-spec : {M : Type 1} → statement M
-reason-at-spec =
+pub reason_at_spec : {M : Type 1} → statement M
+reason_at_spec =
     tie.close
     (tie.spec
     sample-requires

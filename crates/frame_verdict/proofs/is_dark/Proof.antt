@@ -6,11 +6,11 @@ use Rattle.frame_verdict.proofs.is_dark.Tie as tie
 sample-requires : tie.Need-sample-requires
 sample-requires c κs = search rules
 
-cast-result : tie.Need-overflow-cast-result
+cast-result : tie.Need-overflow_cast-result
 cast-result c = search rules
 
 returns : tie.Need-returns
 returns c = rw c.sample.ensures
 
-pub is-dark-spec : {M : Type 1} → statement M
-is-dark-spec = tie.close (tie.spec sample-requires cast-result returns)
+pub is_dark_spec : {M : Type 1} → statement M
+is_dark_spec = tie.close (tie.spec sample-requires cast-result returns)

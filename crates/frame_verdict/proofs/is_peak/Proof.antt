@@ -5,19 +5,19 @@ use Rattle.frame_verdict.specs.Verdict.{peak}
 use Rattle.frame_verdict.proofs.is_peak.Statement.{statement}
 use Rattle.frame_verdict.proofs.is_peak.Tie as tie
 
-is-dark-requires : tie.Need-is-dark-requires
+is-dark-requires : tie.Need-is_dark-requires
 is-dark-requires c κs = search rules
 
-returns : tie.Need-returns
+returns : tie.Need-returns-then-is_dark
 unfolding peak
-returns c = rw (sym c.before.is-dark.ensures ∙ c.if1.true)
+returns c = rw (sym c.before.is_dark.ensures ∙ c.if-is_dark.true)
 
-is-beaten-requires : tie.Need-is-beaten-requires
+is-beaten-requires : tie.Need-is_beaten-requires
 is-beaten-requires c κs = search rules
 
-returns-2 : tie.Need-returns-2
+returns-2 : tie.Need-returns
 unfolding peak
-returns-2 c = rw (sym c.before.before.is-dark.ensures ∙ c.before.if1.false, c.is-beaten.ensures)
+returns-2 c = rw (sym c.before.before.is_dark.ensures ∙ c.before.if-is_dark.false, c.is_beaten.ensures)
 
-pub is-peak-spec : {M : Type 1} → statement M
-is-peak-spec = tie.close (tie.spec is-dark-requires returns is-beaten-requires returns-2)
+pub is_peak_spec : {M : Type 1} → statement M
+is_peak_spec = tie.close (tie.spec is-dark-requires returns is-beaten-requires returns-2)

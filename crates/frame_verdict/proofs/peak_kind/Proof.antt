@@ -10,37 +10,37 @@ use Rattle.frame_verdict.specs.Bright.{bright}
 use Rattle.frame_verdict.proofs.peak_kind.Statement.{statement}
 use Rattle.frame_verdict.proofs.peak_kind.Tie as tie
 
-is-edge-requires : tie.Need-is-edge-requires
+is-edge-requires : tie.Need-is_edge-requires
 is-edge-requires c κs = search rules
 
-returns : tie.Need-returns
+returns : tie.Need-returns-then-is_edge
 unfolding peak_kind
-returns c = rw (sym c.before.is-edge.ensures ∙ c.if1.true)
+returns c = rw (sym c.before.is_edge.ensures ∙ c.if-is_edge.true)
 
-is-lone-requires : tie.Need-is-lone-requires
+is-lone-requires : tie.Need-is_lone-requires
 is-lone-requires c κs =
-    let m = amid _ _ _ _ (inside _ _ _ _ (sym c.before.is-edge.ensures ∙ c.if1.false)) in
+    let m = amid _ _ _ _ (inside _ _ _ _ (sym c.before.is_edge.ensures ∙ c.if-is_edge.false)) in
     search rules
 
-returns-2 : tie.Need-returns-2
+returns-2 : tie.Need-returns-then-is_lone
 unfolding peak_kind
 returns-2 c =
     let e = c.before.before in
-    rw (sym e.before.is-edge.ensures ∙ e.if1.false, sym c.before.is-lone.ensures ∙ c.if2.true)
+    rw (sym e.before.is_edge.ensures ∙ e.if-is_edge.false, sym c.before.is_lone.ensures ∙ c.if-is_lone.true)
 
-moments-at-requires : tie.Need-moments-at-requires
+moments-at-requires : tie.Need-moments_at-moments-requires
 moments-at-requires c κs =
     let e = c.before.before in
-    let i = inside _ _ _ _ (sym e.before.is-edge.ensures ∙ e.if1.false) in
+    let i = inside _ _ _ _ (sym e.before.is_edge.ensures ∙ e.if-is_edge.false) in
     search rules
 
-from-moments-requires : tie.Need-from-moments-requires
+from-moments-requires : tie.Need-from_moments-requires
 from-moments-requires c κs =
-    let m = c.moments-at in
+    let m = c.moments_at-moments in
     let e = c.before.before.before in
     let s = e.before.before.before in
     let a = s.args in
-    let i = inside _ _ _ _ (sym e.before.is-edge.ensures ∙ e.if1.false) in
+    let i = inside _ _ _ _ (sym e.before.is_edge.ensures ∙ e.if-is_edge.false) in
     let b = bright a.samples.now a.width a.height a.row a.column s.requires.5 i in
     let l = m.ensures.bright in (
       record { some = omega arith; small = m.ensures.small; across-small = m.ensures.across-small; down-small = m.ensures.down-small },
@@ -50,23 +50,23 @@ from-moments-requires c κs =
       omega arith,
     )
 
-returns-3 : tie.Need-returns-3
+returns-3 : tie.Need-returns
 unfolding peak_kind
 returns-3 c =
-    let m = c.before.moments-at in
+    let m = c.before.moments_at-moments in
     let l = c.before.before in
     let e = l.before.before in
     let a = e.before.before.before.args in
-    let i = inside _ _ _ _ (sym e.before.is-edge.ensures ∙ e.if1.false) in
+    let i = inside _ _ _ _ (sym e.before.is_edge.ensures ∙ e.if-is_edge.false) in
     rw (
-      sym e.before.is-edge.ensures ∙ e.if1.false,
-      sym l.before.is-lone.ensures ∙ l.if2.false,
-      c.from-moments.ensures,
+      sym e.before.is_edge.ensures ∙ e.if-is_edge.false,
+      sym l.before.is_lone.ensures ∙ l.if-is_lone.false,
+      c.from_moments.ensures,
       from-moments a.samples.now a.width a.row a.column (omega (arith, i.above)) (omega (arith, i.left)) m.result m.ensures,
     )
 
-pub peak-kind-spec : {M : Type 1} → statement M
-peak-kind-spec =
+pub peak_kind_spec : {M : Type 1} → statement M
+peak_kind_spec =
     tie.close
     (tie.spec
     is-edge-requires

@@ -5,25 +5,25 @@ use Rattle.frame_window.specs.Window.{beats}
 use Rattle.frame_window.proofs.beats_it.Statement.{statement}
 use Rattle.frame_window.proofs.beats_it.Tie as tie
 
-sample-requires : tie.Need-sample-requires
+sample-requires : tie.Need-sample-mine-requires
 sample-requires c κs = search rules
 
-sample-requires-2 : tie.Need-sample-requires-2
+sample-requires-2 : tie.Need-sample-other-requires
 sample-requires-2 c κs = search rules
 
-is-earlier-requires : tie.Need-is-earlier-requires
+is-earlier-requires : tie.Need-is_earlier-requires
 is-earlier-requires c κs = search rules
 
-returns : tie.Need-returns
+returns : tie.Need-returns-then-is_earlier
 unfolding beats
 returns c =
-    rw (sym c.before.is-earlier.ensures ∙ c.if1.true, c.before.before.before.sample.ensures, c.before.before.sample2.ensures)
+    rw (sym c.before.is_earlier.ensures ∙ c.if-is_earlier.true, c.before.before.before.sample-mine.ensures, c.before.before.sample-other.ensures)
 
-returns-2 : tie.Need-returns-2
+returns-2 : tie.Need-returns-else-is_earlier
 unfolding beats
 returns-2 c =
-    rw (sym c.before.is-earlier.ensures ∙ c.if1.false, c.before.before.before.sample.ensures, c.before.before.sample2.ensures)
+    rw (sym c.before.is_earlier.ensures ∙ c.if-is_earlier.false, c.before.before.before.sample-mine.ensures, c.before.before.sample-other.ensures)
 
-pub beats-it-spec : {M : Type 1} → statement M
-beats-it-spec =
+pub beats_it_spec : {M : Type 1} → statement M
+beats_it_spec =
     tie.close (tie.spec sample-requires sample-requires-2 is-earlier-requires returns returns-2)

@@ -4,17 +4,17 @@ use Rattle.frame_window.specs.Window.{earlier}
 use Rattle.frame_window.proofs.is_earlier.Statement.{statement}
 use Rattle.frame_window.proofs.is_earlier.Tie as tie
 
-returns : tie.Need-returns
+returns : tie.Need-returns-then-r-row
 unfolding earlier
-returns c = simp (lt-ltb _ _ c.if1.true)
+returns c = simp (lt-ltb _ _ c.if-r-row.true)
 
-returns-2 : tie.Need-returns-2
+returns-2 : tie.Need-returns-then-row-r
 unfolding earlier
-returns-2 c = simp (le-ltb _ _ c.before.if1.false, lt-ltb _ _ c.if2.true)
+returns-2 c = simp (le-ltb _ _ c.before.if-r-row.false, lt-ltb _ _ c.if-row-r.true)
 
-returns-3 : tie.Need-returns-3
+returns-3 : tie.Need-returns
 unfolding earlier
-returns-3 c = simp (le-ltb _ _ c.before.if1.false, le-ltb _ _ c.if2.false)
+returns-3 c = simp (le-ltb _ _ c.before.if-r-row.false, le-ltb _ _ c.if-row-r.false)
 
-pub is-earlier-spec : {M : Type 1} → statement M
-is-earlier-spec = tie.close (tie.spec returns returns-2 returns-3)
+pub is_earlier_spec : {M : Type 1} → statement M
+is_earlier_spec = tie.close (tie.spec returns returns-2 returns-3)

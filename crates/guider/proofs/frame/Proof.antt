@@ -31,46 +31,46 @@ module _ (g : Guider) (l : Listing) where
   unfolding guided_of
   seen e f = rw (e, f) refl
 
-guider-ok-requires : tie.Need-guider-ok-requires
+guider-ok-requires : tie.Need-guider_ok-requires
 guider-ok-requires c κs = search rules
 
 refused-requires : tie.Need-refused-requires
 refused-requires c κs = search rules
 
-returns : tie.Need-returns
+returns : tie.Need-returns-then-not-guider_ok
 returns c =
-    let t = c.before.before.guider-ok in
+    let t = c.before.before.guider_ok in
     let a = c.before.before.before.args in
-    both a.guider a.listing (c.refused.ensures ∙ unruly a.guider a.listing (sym t.ensures ∙ not-true t.result c.before.if1.true))
+    both a.guider a.listing (c.refused.ensures ∙ unruly a.guider a.listing (sym t.ensures ∙ not-true t.result c.before.if-not-guider_ok.true))
 
-enum_told : tie.Need-enum-told
+enum_told : tie.Need-enum_told-1
 enum_told c = search rules
 
-enum-told-2 : tie.Need-enum-told-2
+enum-told-2 : tie.Need-enum_told-in-Accepted
 enum-told-2 c = search rules
 
 followed-requires : tie.Need-followed-requires
 followed-requires c κs =
-    let t = c.before.before.before.guider-ok in
-    sym t.ensures ∙ not-false t.result c.before.before.if1.false
+    let t = c.before.before.before.guider_ok in
+    sym t.ensures ∙ not-false t.result c.before.before.if-not-guider_ok.false
 
-returns-2 : tie.Need-returns-2
+returns-2 : tie.Need-returns-in-Refused
 returns-2 c =
-    let t = c.before.before.before.guider-ok in
+    let t = c.before.before.before.guider_ok in
     let a = c.before.before.before.before.args in
     both a.guider a.listing
-    (no-frame a.guider a.listing (sym t.ensures ∙ not-false t.result c.before.before.if1.false) c.enum_told.given.1)
+    (no-frame a.guider a.listing (sym t.ensures ∙ not-false t.result c.before.before.if-not-guider_ok.false) c.enum_told-1.given.1)
 
-returns-3 : tie.Need-returns-3
+returns-3 : tie.Need-returns-in-Accepted
 returns-3 c =
-    let t = c.before.before.before.before.guider-ok in
+    let t = c.before.before.before.before.guider_ok in
     let a = c.before.before.before.before.before.args in
     both a.guider a.listing
     (c.followed.ensures
-    ∙ seen a.guider a.listing (sym t.ensures ∙ not-false t.result c.before.before.before.if1.false) c.before.enum-told2.given.1)
+    ∙ seen a.guider a.listing (sym t.ensures ∙ not-false t.result c.before.before.before.if-not-guider_ok.false) c.before.enum_told-in-Accepted-1.given.1)
 
-pub frame-spec : {M : Type 1} → statement M
-frame-spec =
+pub frame_spec : {M : Type 1} → statement M
+frame_spec =
     tie.close
     (tie.spec
     guider-ok-requires

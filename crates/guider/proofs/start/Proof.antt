@@ -30,31 +30,31 @@ module _ (half : ℕ) (stars : List Sighting) (count : ℕ) where
   unfolding started_of
   met e t = both (rw t e)
 
-guider-of-requires : tie.Need-guider-of-requires
+guider-of-requires : tie.Need-guider_of-guider-requires
 guider-of-requires c κs = search rules
 
-guider-ok-requires : tie.Need-guider-ok-requires
+guider-ok-requires : tie.Need-guider_ok-requires
 guider-ok-requires c κs = search rules
 
 unmade-requires : tie.Need-unmade-requires
 unmade-requires c κs = search rules
 
-returns : tie.Need-returns
+returns : tie.Need-returns-then-not-guider_ok
 unfolding Meets
 returns c =
-    let t = c.before.before.guider-ok in
-    let m = c.before.before.before.guider-of in
+    let t = c.before.before.guider_ok in
+    let m = c.before.before.before.guider_of-guider in
     let a = c.before.before.before.before.args in
     unmet a.half a.stars a.count c.unmade.ensures (sym (ap guider_ok m.ensures) ∙ sym t.ensures
-    ∙ not-true t.result c.before.if1.true)
+    ∙ not-true t.result c.before.if-not-guider_ok.true)
 
-returns-2 : tie.Need-returns-2
+returns-2 : tie.Need-returns
 unfolding Meets
 returns-2 c =
-    let t = c.before.guider-ok in
-    let m = c.before.before.guider-of in
+    let t = c.before.guider_ok in
+    let m = c.before.before.guider_of-guider in
     let a = c.before.before.before.args in
-    met a.half a.stars a.count (ap accepted m.ensures) (sym (ap guider_ok m.ensures) ∙ sym t.ensures ∙ not-false t.result c.if1.false)
+    met a.half a.stars a.count (ap accepted m.ensures) (sym (ap guider_ok m.ensures) ∙ sym t.ensures ∙ not-false t.result c.if-not-guider_ok.false)
 
 pub start_spec : {M : Type 1} → statement M
 start_spec = tie.close (tie.spec guider-of-requires guider-ok-requires unmade-requires returns returns-2)

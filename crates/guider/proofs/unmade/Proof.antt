@@ -14,5 +14,5 @@ refused-requires c κs = search rules
 returns : tie.Need-returns
 returns c = c.refused.ensures ∙ ap refused_with c.before.nobody.ensures
 
-pub unmade-spec : {M : Type 1} → statement M
-unmade-spec = tie.close (tie.spec nobody-requires refused-requires returns)
+pub unmade_spec : {M : Type 1} → statement M
+unmade_spec = tie.close (tie.spec nobody-requires refused-requires returns)

@@ -33,76 +33,76 @@ joined : {a b d : List ℕ} {to end : ℕ} (catalogue : List ℕ) (t : Tracked) 
 unfolding accepted_text
 joined catalogue t p q = wrote_then p q
 
-abbrev start : tie.After-track → tie.Start
+abbrev start : tie.After-track-tracked → tie.Start
 start c = c.before.before.before.before.before
 
-abbrev chain : tie.After-track → Call
+abbrev chain : tie.After-track-tracked → Call
 chain c = chain_on (start c).args.samples.now (start c).args.catalogue.now (start c).args.settings
 
-tracked-is : (c : tie.After-track) → c.track.result ≡ tracked_of (chain c)
-tracked-is c = c.track.ensures.0
+tracked-is : (c : tie.After-track-tracked) → c.track-tracked.result ≡ tracked_of (chain c)
+tracked-is c = c.track-tracked.ensures.0
 
-outcome-is : (c : tie.After-track) {o : Outcome} → c.track.result.outcome ≡ o → (tracked_of (chain c)).outcome ≡ o
+outcome-is : (c : tie.After-track-tracked) {o : Outcome} → c.track-tracked.result.outcome ≡ o → (tracked_of (chain c)).outcome ≡ o
 outcome-is c e = sym (ap (λ (t : Tracked). t.outcome) (tracked-is c)) ∙ e
 
-slice-aggregate-track : tie.Need-slice-aggregate-track
+slice-aggregate-track : tie.Need-slice_bounds-track-end
 slice-aggregate-track c = search rules
 
-track-requires : tie.Need-track-requires
+track-requires : tie.Need-track-tracked-requires
 track-requires c κs = search rules
 
-enum-known-outcome : tie.Need-enum-known-outcome
+enum-known-outcome : tie.Need-enum_known-outcome
 enum-known-outcome c = search rules
 
-slice-aggregate-refused : tie.Need-slice-aggregate-refused
+slice-aggregate-refused : tie.Need-slice_bounds-refused-end
 slice-aggregate-refused c = search rules
 
 refused-requires : tie.Need-refused-requires
 refused-requires c κs =
     let o = c.before.before.before in
     let t = o.before.before.before.before.before.before in
-    record { outcome = outcome-is t o.outcome.given.1; left = t.track.ensures.1.0 }
+    record { outcome = outcome-is t o.outcome-1.given.1; left = t.track-tracked.ensures.1.0 }
 
-enum_told : tie.Need-enum-told
+enum_told : tie.Need-enum_told-1
 enum_told c = search rules
 
-report-requires : tie.Need-report-requires
+report-requires : tie.Need-report-next-requires
 report-requires c κs = search rules
 
 matrix-requires : tie.Need-matrix-requires
 matrix-requires c κs = search rules
 
-same_length : tie.Need-same-length
+same_length : tie.Need-shape_of-room-in-Refused
 same_length c = search rules
 
-returns : tie.Need-returns
+returns : tie.Need-returns-in-Refused
 returns c =
     let w = c.before.before in
     let o = w.before.before.before.before in
     let t = o.before.before.before.before.before.before in (
       subst (λ (x : List ℕ). Wrote (start t).args.room.now 0 x w.refused.new.1.1.1.1.1.0 w.refused.result)
-          (sym (refused-answer (chain t) o.outcome.given.0.0 (outcome-is t o.outcome.given.1))) w.refused.ensures.0,
+          (sym (refused-answer (chain t) o.outcome-1.given.0.0 (outcome-is t o.outcome-1.given.1))) w.refused.ensures.0,
       omega (arith, w.refused.ensures.1),
     )
 
-same-length-2 : tie.Need-same-length-2
+same-length-2 : tie.Need-shape_of-room-in-Accepted
 same-length-2 c = search rules
 
-returns-2 : tie.Need-returns-2
+returns-2 : tie.Need-returns-in-Accepted
 returns-2 c =
     let w2 = c.before.before in
     let w1 = w2.before.before.before.before in
     let e = w1.before.before in
     let t = e.before.before.before.before.before.before in
     let catalogue = (start t).args.catalogue.now in (
-      subst (λ (x : List ℕ). Wrote (start t).args.room.now 0 x w2.matrix2.new.0 w2.matrix2.result) (ap (accepted_text catalogue) (tracked-is t)
-          ∙ sym (accepted-answer (chain t) (outcome-is t e.enum_told.given.1)))
-          (joined catalogue t.track.result w1.report2.ensures.0 w2.matrix2.ensures.0),
-      omega (arith, w1.report2.ensures.1, w2.matrix2.ensures.1),
+      subst (λ (x : List ℕ). Wrote (start t).args.room.now 0 x w2.matrix.new.0 w2.matrix.result) (ap (accepted_text catalogue) (tracked-is t)
+          ∙ sym (accepted-answer (chain t) (outcome-is t e.enum_told-1.given.1)))
+          (joined catalogue t.track-tracked.result w1.report-next.ensures.0 w2.matrix.ensures.0),
+      omega (arith, w1.report-next.ensures.1, w2.matrix.ensures.1),
     )
 
-pub answer-spec : {M : Type 1} → statement M
-answer-spec =
+pub answer_spec : {M : Type 1} → statement M
+answer_spec =
     tie.close
     (tie.spec
     slice-aggregate-track

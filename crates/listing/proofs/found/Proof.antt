@@ -29,13 +29,13 @@ there c = subst (λ (n : ℕ). n ≤ length (start c).args.ranking.now) (sym (wo
 records-requires : tie.Need-records-requires
 records-requires c κs = search rules
 
-mul_words : tie.Need-overflow-mul-words
+mul_words : tie.Need-overflow_mul-words
 mul_words c = omega (arith, words c, words-few _ _ _ (start c).requires.refuses (start c).requires.close)
 
-slice-aggregate-names : tie.Need-slice-aggregate-names
+slice-aggregate-names : tie.Need-slice_bounds-names-end
 slice-aggregate-names c = sym (length-take-le _ _ (there c.before))
 
-names-requires : tie.Need-names-requires
+names-requires : tie.Need-names-names-requires
 names-requires c κs = search rules
 
 returns : tie.Need-returns
@@ -44,10 +44,10 @@ returns c =
     let o = n.before.before in
     let s = start o in
     ap (λ (x : Identification). x.stars)
-    (n.names.ensures
+    (n.names-names.ensures
     ∙ ap (λ (k : ℕ). names_of s.args.samples.now s.args.catalogue.now s.args.settings (take k s.args.ranking.now)) (words o)
-    ∙ names-found _ _ _ s.pre.refuses s.pre.close)
+    ∙ names-found _ _ _ s.requires.refuses s.requires.close)
 
-pub found-spec : {M : Type 1} → statement M
-found-spec =
+pub found_spec : {M : Type 1} → statement M
+found_spec =
     tie.close (tie.spec records-requires mul_words slice-aggregate-names names-requires returns)

@@ -3,11 +3,11 @@ use borrow.Author.Tests.{lt-ltb, le-ltb}
 use Rattle.listing.proofs.is_early.Statement.{statement}
 use Rattle.listing.proofs.is_early.Tie as tie
 
-returns : tie.Need-returns
-returns c = simp (lt-ltb _ _ c.if1.true)
+returns : tie.Need-returns-then-number-lt-FEW
+returns c = simp (lt-ltb _ _ c.if-number-lt-FEW.true)
 
-returns-2 : tie.Need-returns-2
-returns-2 c = simp (le-ltb _ _ c.if1.false)
+returns-2 : tie.Need-returns
+returns-2 c = simp (le-ltb _ _ c.if-number-lt-FEW.false)
 
-pub is-early-spec : {M : Type 1} → statement M
-is-early-spec = tie.close (tie.spec returns returns-2)
+pub is_early_spec : {M : Type 1} → statement M
+is_early_spec = tie.close (tie.spec returns returns-2)

@@ -15,40 +15,40 @@ told : {x y : Asked} {a b : List ℕ} {to : ℕ} (c : Call) → x ≡ y → Wrot
     × (to ≤ most_of x)
 told c e p = rw e p
 
-enum_told : tie.Need-enum-told
+enum_told : tie.Need-enum_told-1
 enum_told c = search rules
 
 answer-requires : tie.Need-answer-requires
 answer-requires c κs = search rules
 
-enum-told-2 : tie.Need-enum-told-2
+enum-told-2 : tie.Need-enum_told-in-Rival
 enum-told-2 c = search rules
 
 rivals-requires : tie.Need-rivals-requires
 rivals-requires c κs = search rules
 
-same_length : tie.Need-same-length
+same_length : tie.Need-shape_of-room-in-Listing
 same_length c = search rules
 
-returns : tie.Need-returns
+returns : tie.Need-returns-in-Listing
 returns c =
     let w = c.before.before in
-    let t : tie.After-enum-told = search rules in
+    let t : tie.In-Listing = search rules in
     let s : tie.Start = search rules in
-    told (chain_on s.args.samples.now s.args.catalogue.now s.args.settings) t.enum_told.given.1 w.answer.ensures
+    told (chain_on s.args.samples.now s.args.catalogue.now s.args.settings) t.enum_told-1.given.1 w.answer.ensures
 
-same-length-2 : tie.Need-same-length-2
+same-length-2 : tie.Need-shape_of-room-in-Rival
 same-length-2 c = search rules
 
-returns-2 : tie.Need-returns-2
+returns-2 : tie.Need-returns-in-Rival
 returns-2 c =
     let w = c.before.before in
-    let t : tie.After-enum-told2 = search rules in
+    let t : tie.In-Rival = search rules in
     let s : tie.Start = search rules in
-    told (chain_on s.args.samples.now s.args.catalogue.now s.args.settings) t.enum-told2.given.1 w.rivals.ensures
+    told (chain_on s.args.samples.now s.args.catalogue.now s.args.settings) t.enum_told-in-Rival-1.given.1 w.rivals.ensures
 
-pub lines-of-spec : {M : Type 1} → statement M
-lines-of-spec =
+pub lines_of_spec : {M : Type 1} → statement M
+lines_of_spec =
     tie.close
     (tie.spec
     enum_told

@@ -12,32 +12,32 @@ use Rattle.listing.specs.Asked.{samples_in, lines_of}
 use Rattle.listing.proofs.listed.Statement.{statement}
 use Rattle.listing.proofs.listed.Tie as tie
 
-abbrev start : tie.After-read-samples → tie.Start
+abbrev start : tie.After-read_samples-count → tie.Start
 start c = c.before.before.before.before.before
 
-within : (c : tie.After-read-samples) → c.read-samples.result ≤ length c.read-samples.new.1.1.1.0
-within c = lent-within _ _ _ _ c.read-samples.ensures.1
+within : (c : tie.After-read_samples-count) → c.read_samples-count.result ≤ length c.read_samples-count.new.1.1.1.0
+within c = lent-within _ _ _ _ c.read_samples-count.ensures.1
 
-samples-are : (c : tie.After-read-samples) → take c.read-samples.result c.read-samples.new.1.1.1.0 ≡ samples_in (start c).args.frame.now
+samples-are : (c : tie.After-read_samples-count) → take c.read_samples-count.result c.read_samples-count.new.1.1.1.0 ≡ samples_in (start c).args.frame.now
     (start c).args.settings
-samples-are c = lent-samples _ _ _ _ _ _ c.read-samples.ensures.1 c.read-samples.ensures.0
+samples-are c = lent-samples _ _ _ _ _ _ c.read_samples-count.ensures.1 c.read_samples-count.ensures.0
 
-slice-aggregate-read-samples : tie.Need-slice-aggregate-read-samples
+slice-aggregate-read-samples : tie.Need-slice_bounds-read_samples-end
 slice-aggregate-read-samples c = search rules
 
-read-samples-requires : tie.Need-read-samples-requires
+read-samples-requires : tie.Need-read_samples-count-requires
 read-samples-requires c κs = search rules
 
-array-share-prefix-samples : tie.Need-array-share-prefix-samples
+array-share-prefix-samples : tie.Need-slice_bounds-samples-end
 array-share-prefix-samples c = within c.before
 
-slice-aggregate-lines-of : tie.Need-slice-aggregate-lines-of
+slice-aggregate-lines-of : tie.Need-slice_bounds-lines_of-end
 slice-aggregate-lines-of c = sym (length-take-le _ _ (within c.before.before))
 
-lines-of-requires : tie.Need-lines-of-requires
+lines-of-requires : tie.Need-lines_of-requires
 lines-of-requires c κs = search rules
 
-same_length : tie.Need-same-length
+same_length : tie.Need-shape_of-room
 same_length c = search rules
 
 returns : tie.Need-returns
@@ -50,8 +50,8 @@ returns c =
       w.lines_of.ensures.1,
     )
 
-pub listed-spec : {M : Type 1} → statement M
-listed-spec =
+pub listed_spec : {M : Type 1} → statement M
+listed_spec =
     tie.close
     (tie.spec
     slice-aggregate-read-samples

@@ -42,86 +42,86 @@ module _ (c : Call) (r : Refusal) where
     without-names h k p q = subst (λ (t : List ℕ). Wrote a 0 t d end) ((λ i. report_lines (same i) nobody ++ refusal_line r) ∙ sym (nobody-text h k))
         (wrote_then p q)
 
-abbrev start : tie.After-is-early → tie.Start
+abbrev start : tie.After-is_early → tie.Start
 start c = c.before.before.before.before.before
 
 abbrev chain : tie.Start → Call
 chain s = chain_on s.args.samples.now s.args.catalogue.now s.args.settings
 
-same-report : (l : tie.After-list) → l.list.result.report ≡ (listed (chain (start l.before.before))).report
-same-report l = ap (λ (x : Listing). x.report) l.list.ensures
+same-report : (l : tie.After-list-listing) → l.list-listing.result.report ≡ (listed (chain (start l.before.before))).report
+same-report l = ap (λ (x : Listing). x.report) l.list-listing.ensures
 
-is-early-requires : tie.Need-is-early-requires
+is-early-requires : tie.Need-is_early-requires
 is-early-requires c κs = search rules
 
 refused-requires : tie.Need-refused-requires
 refused-requires c κs = search rules
 
-same_length : tie.Need-same-length
+same_length : tie.Need-shape_of-room-then-is_early
 same_length c = search rules
 
-returns : tie.Need-returns
+returns : tie.Need-returns-then-is_early
 returns c =
     let w = c.before.before in
     let t = w.before.before in
     let s = start t.before in (
       subst (λ (x : List ℕ). Wrote s.args.room.now 0 x w.refused.new.0 w.refused.result)
-          (sym (alone-text (chain s) s.args.refusal (sym t.before.is-early.ensures ∙ t.if1.true))) w.refused.ensures.0,
+          (sym (alone-text (chain s) s.args.refusal (sym t.before.is_early.ensures ∙ t.if-is_early.true))) w.refused.ensures.0,
       omega (arith, w.refused.ensures.1),
     )
 
-list-requires : tie.Need-list-requires
+list-requires : tie.Need-list-listing-requires
 list-requires c κs = search rules
 
-found-requires : tie.Need-found-requires
+found-requires : tie.Need-found-words-requires
 found-requires c κs =
     let l = c.before.before.before in
-    record { refuses = (start l.before.before).requires; close = c.if2.true; stars = ap (λ (x : Report). x.count) (same-report l) }
+    record { refuses = (start l.before.before).requires; close = c.if-refusal-eq-CLOSE.true; stars = ap (λ (x : Report). x.count) (same-report l) }
 
-report-requires : tie.Need-report-requires
+report-requires : tie.Need-report-next-requires
 report-requires c κs = search rules
 
-refused-requires-2 : tie.Need-refused-requires-2
+refused-requires-2 : tie.Need-refused-requires-then-refusal-eq-CLOSE
 refused-requires-2 c κs = search rules
 
-same-length-2 : tie.Need-same-length-2
+same-length-2 : tie.Need-shape_of-room-then-refusal-eq-CLOSE
 same-length-2 c = search rules
 
-returns-2 : tie.Need-returns-2
+returns-2 : tie.Need-returns-then-refusal-eq-CLOSE
 returns-2 c =
     let w2 = c.before.before in
     let w1 = w2.before.before.before.before in
     let f = w1.before.before in
     let l = f.before.before.before.before in
     let s = start l.before.before in (
-      with-names (chain s) s.args.refusal _ (same-report l) _ f.found.ensures (sym l.before.before.is-early.ensures ∙ l.before.if1.false)
-          f.before.if2.true w1.report2.ensures.0 w2.refused2.ensures.0,
-      omega (arith, w1.report2.ensures.1, w2.refused2.ensures.1),
+      with-names (chain s) s.args.refusal _ (same-report l) _ f.found-words.ensures (sym l.before.before.is_early.ensures ∙ l.before.if-is_early.false)
+          f.before.if-refusal-eq-CLOSE.true w1.report-next.ensures.0 w2.refused-then-refusal-eq-CLOSE.ensures.0,
+      omega (arith, w1.report-next.ensures.1, w2.refused-then-refusal-eq-CLOSE.ensures.1),
     )
 
-report-requires-2 : tie.Need-report-requires-2
+report-requires-2 : tie.Need-report-next-requires-2
 report-requires-2 c κs = search rules
 
-refused-requires-3 : tie.Need-refused-requires-3
+refused-requires-3 : tie.Need-refused-requires-2
 refused-requires-3 c κs = search rules
 
-same-length-3 : tie.Need-same-length-3
+same-length-3 : tie.Need-shape_of-room
 same-length-3 c = search rules
 
-returns-3 : tie.Need-returns-3
+returns-3 : tie.Need-returns
 returns-3 c =
     let w2 = c.before.before in
     let w1 = w2.before.before.before.before in
     let e = w1.before.before in
     let l = e.before.before.before in
     let s = start l.before.before in (
-      without-names (chain s) s.args.refusal _ (same-report l) (sym l.before.before.is-early.ensures ∙ l.before.if1.false) e.if2.false
-          w1.report3.ensures.0 w2.refused3.ensures.0,
-      omega (arith, w1.report3.ensures.1, w2.refused3.ensures.1),
+      without-names (chain s) s.args.refusal _ (same-report l) (sym l.before.before.is_early.ensures ∙ l.before.if-is_early.false) e.if-refusal-eq-CLOSE.false
+          w1.report-next-2.ensures.0 w2.refused-2.ensures.0,
+      omega (arith, w1.report-next-2.ensures.1, w2.refused-2.ensures.1),
     )
 
-pub refused-spec : {M : Type 1} → statement M
-refused-spec =
+pub refused_spec : {M : Type 1} → statement M
+refused_spec =
     tie.close
     (tie.spec
     is-early-requires

@@ -32,54 +32,54 @@ module _ (asked : Asked) (settings frame catalogue : List ℕ) where
   unfolding text_of
   read-text s e = sym (ap (λ (x : Reading). read_text asked frame catalogue x) e)
 
-abbrev start : tie.Else1 → tie.Start
+abbrev start : tie.Else-room-lt-ROOM → tie.Start
 start c = c.before.before.before.before.before
 
-returns : tie.Need-returns
+returns : tie.Need-returns-then-room-lt-ROOM
 returns c =
-    let s = room-short 2048 _ _ c.if1.true in
+    let s = room-short 2048 _ _ c.if-room-lt-ROOM.true in
     (s.0, (s.1, omega arith))
 
-read-settings-requires : tie.Need-read-settings-requires
+read-settings-requires : tie.Need-read_settings-requires
 read-settings-requires c κs = search rules
 
-enum-known-r : tie.Need-enum-known-r
+enum-known-r : tie.Need-enum_known-r
 enum-known-r c = search rules
 
 refused-requires : tie.Need-refused-requires
 refused-requires c κs = search rules
 
-enum-known-s : tie.Need-enum-known-s
+enum-known-s : tie.Need-enum_known-s
 enum-known-s c = search rules
 
 listed-requires : tie.Need-listed-requires
 listed-requires c κs = search rules
 
-same_length : tie.Need-same-length
+same_length : tie.Need-shape_of-room-in-Refused
 same_length c = search rules
 
-returns-2 : tie.Need-returns-2
+returns-2 : tie.Need-returns-in-Refused
 returns-2 c =
     let w = c.before.before in
     let k = w.before.before.before in
     let e = k.before.before.before in
     let a = (start e).args in
-    let t = refused-text a.asked a.settings.now a.frame.now a.catalogue.now k.r.given.0.0
-    (sym k.before.before.read-settings.ensures.0 ∙ k.r.given.1) in
-    room-told 2048 _ _ _ _ _ _ e.if1.false (omega (arith, w.refused.ensures.1, (most a.asked).0)) (most a.asked).1 t w.refused.ensures.0
+    let t = refused-text a.asked a.settings.now a.frame.now a.catalogue.now k.r-1.given.0.0
+    (sym k.before.before.read_settings.ensures.0 ∙ k.r-1.given.1) in
+    room-told 2048 _ _ _ _ _ _ e.if-room-lt-ROOM.false (omega (arith, w.refused.ensures.1, (most a.asked).0)) (most a.asked).1 t w.refused.ensures.0
 
-same-length-2 : tie.Need-same-length-2
+same-length-2 : tie.Need-shape_of-room-in-Read
 same-length-2 c = search rules
 
-returns-3 : tie.Need-returns-3
+returns-3 : tie.Need-returns-in-Read
 returns-3 c =
     let w = c.before.before in
     let k = w.before.before.before in
     let e = k.before.before.before in
     let a = (start e).args in
-    let t = read-text a.asked a.settings.now a.frame.now a.catalogue.now k.s.given.0.0 (sym k.before.before.read-settings.ensures.0
-    ∙ k.s.given.1) in
-    room-told 2048 _ _ _ _ _ _ e.if1.false w.listed.ensures.1 (most a.asked).1 t w.listed.ensures.0
+    let t = read-text a.asked a.settings.now a.frame.now a.catalogue.now k.s-1.given.0.0 (sym k.before.before.read_settings.ensures.0
+    ∙ k.s-1.given.1) in
+    room-told 2048 _ _ _ _ _ _ e.if-room-lt-ROOM.false w.listed.ensures.1 (most a.asked).1 t w.listed.ensures.0
 
 pub write_spec : {M : Type 1} → statement M
 write_spec =

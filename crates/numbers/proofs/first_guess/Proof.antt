@@ -9,26 +9,26 @@ use Rattle.numbers.proofs.first_guess.Tie as tie
 halved : (c : tie.Start) → Half c.args.n (half c.args.n)
 halved c = half_is c.requires c.ranges.n.fits
 
-sub-half : tie.Need-overflow-sub-half
+sub-half : tie.Need-overflow_sub-half
 sub-half c = leading_le 64 c.args.n
 
-cast-result : tie.Need-overflow-cast-result
+cast-result : tie.Need-overflow_cast-result
 cast-result c = search rules
 
-shl-result : tie.Need-overflow-shl-result
+shl-result : tie.Need-overflow_shl-result
 shl-result c = search rules
 
-cast-result-2 : tie.Need-overflow-cast-result-2
+cast-result-2 : tie.Need-overflow_cast-result-2
 cast-result-2 c = search rules
 
-shr-result : tie.Need-overflow-shr-result
+shr-result : tie.Need-overflow_shr-result
 shr-result c = search rules
 
-add-result : tie.Need-overflow-add-result
+add-result : tie.Need-overflow_add-result
 add-result c = rw (power-held (halved c)) (record { fits = sum-held (halved c) })
 
 returns : tie.Need-returns
 returns c = rw (power-held (halved c))
 
-pub first-guess-spec : {M : Type 1} → statement M
-first-guess-spec = tie.close (tie.spec sub-half cast-result shl-result cast-result-2 shr-result add-result returns)
+pub first_guess_spec : {M : Type 1} → statement M
+first_guess_spec = tie.close (tie.spec sub-half cast-result shl-result cast-result-2 shr-result add-result returns)

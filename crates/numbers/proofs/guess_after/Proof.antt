@@ -18,26 +18,26 @@ decreases-loop n passes x₀ counter₀ x counter = passes - counter
 abbrev at-start : tie.In-loop invariant-loop decreases-loop → tie.Start invariant-loop decreases-loop
 at-start c = c.before.before.before
 
-first-guess-requires : tie.Need-first-guess-requires invariant-loop decreases-loop
+first-guess-requires : tie.Need-first_guess-x-requires invariant-loop decreases-loop
 first-guess-requires c κs = c.requires
 
 loop-holds : tie.Need-loop-init invariant-loop decreases-loop
 unfolding steps
-loop-holds c = (omega arith, c.first_guess.ensures)
+loop-holds c = (omega arith, c.first_guess-x.ensures)
 
-div-x : tie.Need-nonzero-div-x invariant-loop decreases-loop
+div-x : tie.Need-nonzero_div-x invariant-loop decreases-loop
 div-x c =
     let s = at-start c in
     let k = c.before.loop.counter in
-    omega (arith, c.before.loop.invariant.1, root-positive s.pre s.fits.n.fits, (steps-near s.pre s.fits.n.fits k).above)
+    omega (arith, c.before.loop.invariant.1, root-positive s.requires s.ranges.n.fits, (steps-near s.requires s.ranges.n.fits k).above)
 
-add-x : tie.Need-overflow-add-x invariant-loop decreases-loop
+add-x : tie.Need-overflow_add-x invariant-loop decreases-loop
 add-x c =
     let s = at-start c in
     let l = c.before.loop in
-    rw l.invariant.1 (record { fits = sum-after s.pre s.fits.n.fits l.counter })
+    rw l.invariant.1 (record { fits = sum-after s.requires s.ranges.n.fits l.counter })
 
-add-counter : tie.Need-overflow-add-counter invariant-loop decreases-loop
+add-counter : tie.Need-overflow_step invariant-loop decreases-loop
 add-counter c = omega arith
 
 loop-less : tie.Need-loop-smaller invariant-loop decreases-loop
@@ -56,8 +56,8 @@ returns c =
     let e : l.counter ≡ c.before.before.before.args.passes = omega arith in
     l.invariant.1 ∙ ap (λ (k : ℕ). steps k n (guess n)) e
 
-pub guess-after-spec : {M : Type 1} → statement M
-guess-after-spec =
+pub guess_after_spec : {M : Type 1} → statement M
+guess_after_spec =
     tie.close
     (tie.spec
     invariant-loop

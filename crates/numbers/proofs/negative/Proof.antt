@@ -22,17 +22,17 @@ module _ (n : ℕ) (h : n < half64) where
   below-fits : SFits w64 (to_z w64 (of_z w64 turned.u) -ℤ pos 1)
   below-fits = subst (SFits w64) (sym below) (record { sfits = h })
 
-cast-result : tie.Need-overflow-cast-result
+cast-result : tie.Need-overflow_cast-result
 cast-result c = search rules
 
-sub-result : tie.Need-overflow-sub-result
+sub-result : tie.Need-overflow_sub-result
 sub-result c = fits (turned c.args.n c.requires)
 
-sub-result-2 : tie.Need-overflow-sub-result-2
+sub-result-2 : tie.Need-overflow_sub-result-2
 sub-result-2 c = below-fits c.args.n c.requires
 
 returns : tie.Need-returns
 returns c = to_z-of_z w64 _ (below-fits c.args.n c.requires) ∙ below c.args.n c.requires
 
-pub negative-spec : {M : Type 1} → statement M
-negative-spec = tie.close (tie.spec cast-result sub-result sub-result-2 returns)
+pub negative_spec : {M : Type 1} → statement M
+negative_spec = tie.close (tie.spec cast-result sub-result sub-result-2 returns)

@@ -8,20 +8,20 @@ use Rattle.numbers.specs.TwosComplement.{half64, signed_low, signed_high}
 use Rattle.numbers.proofs.signed.Statement.{statement}
 use Rattle.numbers.proofs.signed.Tie as tie
 
-cast-result : tie.Need-overflow-cast-result
+cast-result : tie.Need-overflow_cast-result
 cast-result c = search rules
 
-returns : tie.Need-returns
-returns c = to_z_pos w64 _ c.if1.true ∙ sym (signed_low half64 _ c.if1.true)
+returns : tie.Need-returns-then-word-lt9223372036854775808
+returns c = to_z_pos w64 _ c.if-word-lt9223372036854775808.true ∙ sym (signed_low half64 _ c.if-word-lt9223372036854775808.true)
 
-sub-negative : tie.Need-overflow-sub-negative
+sub-negative : tie.Need-overflow_sub-word
 sub-negative c = search rules
 
 negative-requires : tie.Need-negative-requires
 negative-requires c κs = search rules
 
-returns-2 : tie.Need-returns-2
-returns-2 c = kept w64 c.negative.type-inv c.negative.ensures ∙ sym (signed_high half64 _ c.before.if1.false)
+returns-2 : tie.Need-returns
+returns-2 c = kept w64 c.negative.type_inv c.negative.ensures ∙ sym (signed_high half64 _ c.before.if-word-lt9223372036854775808.false)
 
-pub signed-spec : {M : Type 1} → statement M
-signed-spec = tie.close (tie.spec cast-result returns sub-negative negative-requires returns-2)
+pub signed_spec : {M : Type 1} → statement M
+signed_spec = tie.close (tie.spec cast-result returns sub-negative negative-requires returns-2)

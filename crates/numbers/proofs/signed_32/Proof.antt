@@ -14,34 +14,34 @@ use Rattle.numbers.proofs.signed_32.Tie as tie
 
 -- the number below zero, and that 32 bits hold it
 below : (c : tie.After-negative) → to_z w64 (of_z w64 c.negative.result) ≡ negsuc (4294967295 - c.before.before.args.word)
-below c = kept w64 c.negative.type-inv c.negative.ensures
+below c = kept w64 c.negative.type_inv c.negative.ensures
 
 below-fits : (c : tie.After-negative) → SFits w32 (to_z w64 (of_z w64 c.negative.result))
-below-fits c = subst (SFits w32) (sym (below c)) (record { sfits = omega (arith, c.before.if1.false) })
+below-fits c = subst (SFits w32) (sym (below c)) (record { sfits = omega (arith, c.before.if-word-lt2147483648.false) })
 
-cast-result : tie.Need-overflow-cast-result
+cast-result : tie.Need-overflow_cast-result
 cast-result c = search rules
 
-returns : tie.Need-returns
-returns c = to_z_pos w32 _ c.if1.true ∙ sym (signed_low half32 _ c.if1.true)
+returns : tie.Need-returns-then-word-lt2147483648
+returns c = to_z_pos w32 _ c.if-word-lt2147483648.true ∙ sym (signed_low half32 _ c.if-word-lt2147483648.true)
 
-sub-negative : tie.Need-overflow-sub-negative
+sub-negative : tie.Need-overflow_sub-word
 sub-negative c = search rules
 
-cast-negative : tie.Need-overflow-cast-negative
+cast-negative : tie.Need-overflow_cast-word
 cast-negative c = search rules
 
 negative-requires : tie.Need-negative-requires
 negative-requires c κs = search rules
 
-cast-result-2 : tie.Need-overflow-cast-result-2
+cast-result-2 : tie.Need-overflow_cast-result-2
 cast-result-2 c = below-fits c
 
-returns-2 : tie.Need-returns-2
-returns-2 c = to_z-of_z w32 _ (below-fits c) ∙ below c ∙ sym (signed_high half32 _ c.before.if1.false)
+returns-2 : tie.Need-returns
+returns-2 c = to_z-of_z w32 _ (below-fits c) ∙ below c ∙ sym (signed_high half32 _ c.before.if-word-lt2147483648.false)
 
-pub signed-32-spec : {M : Type 1} → statement M
-signed-32-spec =
+pub signed_32_spec : {M : Type 1} → statement M
+signed_32_spec =
     tie.close
     (tie.spec
     cast-result

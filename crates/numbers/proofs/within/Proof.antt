@@ -15,5 +15,5 @@ abs-requires c κs = search rules
 returns : tie.Need-returns
 returns c = ap (λ (n : ℕ). leb n c.before.args.bound) (c.abs.ensures ∙ ap nat_abs (back (param {w = w64} c.before.ranges.x)))
 
-pub within-spec : {M : Type 1} → statement M
-within-spec = tie.close (tie.spec abs-requires returns)
+pub within_spec : {M : Type 1} → statement M
+within_spec = tie.close (tie.spec abs-requires returns)

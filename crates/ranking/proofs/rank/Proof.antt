@@ -22,14 +22,14 @@ use Rattle.ranking.specs.RoomLaws.{Sound, answers, accepted-sound, stars-counted
 use Rattle.ranking.proofs.rank.Statement.{statement}
 use Rattle.ranking.proofs.rank.Tie as tie
 
-abbrev start : tie.After-enum-told → tie.Start
+abbrev start : tie.In-Accepted → tie.Start
 start c = c.before.before.before.before.before
 
-accepted : (c : tie.After-enum-told) → let a = (start c).args in rank_outcome_of a.directions.now a.catalogue.now a.tolerance a.room.now ≡ Accepted
+accepted : (c : tie.In-Accepted) → let a = (start c).args in rank_outcome_of a.directions.now a.catalogue.now a.tolerance a.room.now ≡ Accepted
 unfolding rank_outcome_of
-accepted c = sym c.before.before.first-refusal.ensures ∙ c.enum_told.given.1
+accepted c = sym c.before.before.first_refusal-outcome.ensures ∙ c.enum_told-1.given.1
 
-sound : (c : tie.After-enum-told) → let a = (start c).args in Sound a.directions.now a.catalogue.now a.tolerance (length a.room.now)
+sound : (c : tie.In-Accepted) → let a = (start c).args in Sound a.directions.now a.catalogue.now a.tolerance (length a.room.now)
 unfolding rank_outcome_of
 sound c = accepted-sound _ _ _ _ (accepted c)
 
@@ -40,43 +40,43 @@ answer-is : {o : Outcome} (s : tie.Start)
     → answer_of o ≡ answer_for a.directions.now a.catalogue.now a.tolerance a.room.now
 answer-is s e = let a = s.args in ap (λ (o : Outcome). answer_of o) e ∙ answers a.directions.now a.catalogue.now a.tolerance a.room.now
 
-first-refusal-requires : tie.Need-first-refusal-requires
+first-refusal-requires : tie.Need-first_refusal-outcome-requires
 first-refusal-requires c κs = search rules
 
-enum-known-outcome : tie.Need-enum-known-outcome
+enum-known-outcome : tie.Need-enum_known-outcome
 enum-known-outcome c = search rules
 
-enum_told : tie.Need-enum-told
+enum_told : tie.Need-enum_told-1
 enum_told c = search rules
 
-stars-requires : tie.Need-stars-requires
+stars-requires : tie.Need-stars-numbers-requires
 stars-requires c κs = search rules
 
-records-requires : tie.Need-records-requires
+records-requires : tie.Need-records-end-requires
 records-requires c κs = search rules
 
-mul-end : tie.Need-overflow-mul-end
+mul-end : tie.Need-overflow_mul-end
 mul-end c = search rules
 
-array-share-prefix-numbers : tie.Need-array-share-prefix-numbers
-array-share-prefix-numbers c = lent-within _ _ _ c.before.stars.ensures c.records.ensures (sound c.before.before).catalogue
+array-share-prefix-numbers : tie.Need-slice_bounds-numbers-end
+array-share-prefix-numbers c = lent-within _ _ _ c.before.stars-numbers.ensures c.records-end.ensures (sound c.before.before).catalogue
 
 -- the slice that is handed on
-lent : (c : tie.After-numbers) → take (3 * c.before.records.result) c.before.before.stars.result
+lent : (c : tie.After-numbers-1) → take (3 * c.before.records-end.result) c.before.before.stars-numbers.result
     ≡ stars_of (start c.before.before.before).args.catalogue.now
-lent c = lent-stars _ _ _ c.before.before.stars.ensures c.before.records.ensures (sound c.before.before.before).catalogue
+lent c = lent-stars _ _ _ c.before.before.stars-numbers.ensures c.before.records-end.ensures (sound c.before.before.before).catalogue
 
-slice-aggregate-write-ranking : tie.Need-slice-aggregate-write-ranking
+slice-aggregate-write-ranking : tie.Need-slice_bounds-write_ranking-end
 slice-aggregate-write-ranking c =
-    sym (length-take-le _ _ (lent-within _ _ _ c.before.before.stars.ensures c.before.records.ensures
+    sym (length-take-le _ _ (lent-within _ _ _ c.before.before.stars-numbers.ensures c.before.records-end.ensures
     (sound c.before.before.before).catalogue))
 
 -- directions x stars words, as the stars are counted
-words : (c : tie.After-enum-told) → let a = (start c).args in triples a.directions.now * triples (stars_of a.catalogue.now) ≡ triples a.directions.now
+words : (c : tie.In-Accepted) → let a = (start c).args in triples a.directions.now * triples (stars_of a.catalogue.now) ≡ triples a.directions.now
     * records_in a.catalogue.now
 words c = ap (λ (n : ℕ). triples (start c).args.directions.now * n) (stars-counted _ _ _ _ (sound c))
 
-write-ranking-requires : tie.Need-write-ranking-requires
+write-ranking-requires : tie.Need-write_ranking-requires
 write-ranking-requires c κs =
     let n = c.before in
     let t = n.before.before.before in
@@ -85,18 +85,18 @@ write-ranking-requires c κs =
     (sym (lent n))
     (directions-listed _ _ _ _ (sound t), (stars-listed _ _ _ _ (sound t), rw (words t) (sound t).room))
 
-returns : tie.Need-returns
+returns : tie.Need-returns-in-Refused
 unfolding rank_outcome_of
 returns c =
     let s = c.before.before.before.before.before.before in
     let a = s.args in
-    let e = sym c.before.before.before.first-refusal.ensures ∙ c.before.outcome.given.1 in
+    let e = sym c.before.before.before.first_refusal-outcome.ensures ∙ c.before.outcome-1.given.1 in
     (sym e, (sym (room-kept a.directions.now a.catalogue.now a.tolerance a.room.now _ e), answer-is s (sym e)))
 
-same_length : tie.Need-same-length
+same_length : tie.Need-shape_of-room
 same_length c = search rules
 
-returns-2 : tie.Need-returns-2
+returns-2 : tie.Need-returns-in-Accepted
 returns-2 c =
     let w = c.before.before in
     let n = w.before.before in
@@ -105,15 +105,15 @@ returns-2 c =
     let written : List ℤ → ℕ → List ℕ = λ stars m. ranking_of a.directions.now stars a.tolerance ++ drop m a.room.now in (
       sym (accepted t),
       (
-        w.write-ranking.ensures ∙ ap (λ (stars : List ℤ). written stars (triples a.directions.now * triples stars)) (lent n)
+        w.write_ranking.ensures ∙ ap (λ (stars : List ℤ). written stars (triples a.directions.now * triples stars)) (lent n)
             ∙ ap (written (stars_of a.catalogue.now)) (words t)
             ∙ sym (room-written a.directions.now a.catalogue.now a.tolerance a.room.now (accepted t)),
         answer-is (start t) (sym (accepted t)),
       ),
     )
 
-pub rank-spec : {M : Type 1} → statement M
-rank-spec =
+pub rank_spec : {M : Type 1} → statement M
+rank_spec =
     tie.close
     (tie.spec
     first-refusal-requires

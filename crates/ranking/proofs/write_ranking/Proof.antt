@@ -11,33 +11,33 @@ use Rattle.ranking.specs.Rows.{row_fits, rows_none, rows_more, mid-length, back-
 use Rattle.ranking.proofs.write_ranking.Statement.{statement}
 use Rattle.ranking.proofs.write_ranking.Tie as tie
 
-abbrev invariant-loop : tie.invariant-loop
+abbrev invariant-loop : tie.invariant-loop-i
 invariant-loop directions stars tolerance room₀ count words i₀ room i =
     (i ≤ count) × (length room ≡ length room₀) × (room ≡ rows_of directions stars tolerance i ++ drop (i * words) room₀)
 
-abbrev decreases-loop : tie.decreases-loop
+abbrev decreases-loop : tie.decreases-loop-i
 decreases-loop directions stars tolerance room₀ count words i₀ room i = count - i
 
 -- a row has room
-fits : (c : tie.In-loop invariant-loop decreases-loop)
-    → let n = triples c.before.before.before.args.stars.now in c.before.loop.i * n + n ≤ length c.before.loop.room
+fits : (c : tie.In-loop-i invariant-loop decreases-loop)
+    → let n = triples c.before.before.before.args.stars.now in c.before.loop-i.i * n + n ≤ length c.before.loop-i.room
 fits c =
     let s = c.before.before.before in
-    omega (arith, s.requires.1.1, row_fits (triples s.args.directions.now) (triples s.args.stars.now) c.before.loop.i (omega arith))
+    omega (arith, s.requires.1.1, row_fits (triples s.args.directions.now) (triples s.args.stars.now) c.before.loop-i.i (omega arith))
 
-loop-holds : tie.Need-loop-init invariant-loop decreases-loop
+loop-holds : tie.Need-loop-i-init invariant-loop decreases-loop
 loop-holds c = (search rules, refl, rows_none _ _ _ _)
 
-mul-from : tie.Need-overflow-mul-from invariant-loop decreases-loop
+mul-from : tie.Need-overflow_mul-from invariant-loop decreases-loop
 mul-from c = omega (arith, fits c)
 
-add-to : tie.Need-overflow-add-to invariant-loop decreases-loop
+add-to : tie.Need-overflow_add-to invariant-loop decreases-loop
 add-to c = omega (arith, fits c)
 
-mul-write-row : tie.Need-overflow-mul-write-row invariant-loop decreases-loop
+mul-write-row : tie.Need-offset_bounds-room-from invariant-loop decreases-loop
 mul-write-row c = omega (arith, fits c)
 
-sub-write-row : tie.Need-overflow-sub-write-row invariant-loop decreases-loop
+sub-write-row : tie.Need-slice_bounds-write_row-count invariant-loop decreases-loop
 sub-write-row c = omega (arith, fits c)
 
 part-write-row-start : tie.Need-slice-bounds-write-row-start invariant-loop decreases-loop
@@ -46,48 +46,48 @@ part-write-row-start c = omega (arith, fits c)
 part-write-row-end : tie.Need-slice-bounds-write-row-end invariant-loop decreases-loop
 part-write-row-end c = omega (arith, fits c)
 
-write-row-requires : tie.Need-write-row-requires invariant-loop decreases-loop
+write-row-requires : tie.Need-write_row-requires invariant-loop decreases-loop
 write-row-requires c κs =
     let s = c.before.before.before.before in
     let m = triples s.args.stars.now in
     let f = fits c.before in
-    let n = c.before.before.loop.i * m in
+    let n = c.before.before.loop-i.i * m in
     let k : n + m - n ≡ m = omega arith in
-    (s.requires.0, (s.requires.1.0, (search rules, mid-length c.before.before.loop.room n (n + m - n) (omega arith) ∙ k)))
+    (s.requires.0, (s.requires.1.0, (search rules, mid-length c.before.before.loop-i.room n (n + m - n) (omega arith) ∙ k)))
 
-add-i : tie.Need-overflow-add-i invariant-loop decreases-loop
+add-i : tie.Need-overflow_add-i invariant-loop decreases-loop
 add-i c = search rules
 
-loop-less : tie.Need-loop-smaller invariant-loop decreases-loop
+loop-less : tie.Need-loop-i-smaller invariant-loop decreases-loop
 loop-less c = search rules
 
-loop-again : tie.Need-loop-preserved invariant-loop decreases-loop
+loop-again : tie.Need-loop-i-preserved invariant-loop decreases-loop
 loop-again c =
     let p = c.before.before.before.before.before in
     let a = p.before.before.args in
     let m = triples a.stars.now in
     let f = fits c.before.before.before.before in
-    let n = p.loop.i * m in
-    let w = c.before.before.write-row in (
+    let n = p.loop-i.i * m in
+    let w = c.before.before.write_row in (
       omega arith,
-      back-length p.loop.room w.new.1.1.1.1.0 n (n + m - n) (omega arith) w.auto.1.1.1.1.0 ∙ p.loop.invariant.1,
-      rows_more a.directions.now a.stars.now a.tolerance a.room.now p.loop.room w.new.1.1.1.1.0 p.loop.i p.loop.invariant.2
+      back-length p.loop-i.room w.new.1.1.1.1.0 n (n + m - n) (omega arith) w.auto.1.1.1.1.0 ∙ p.loop-i.invariant.1,
+      rows_more a.directions.now a.stars.now a.tolerance a.room.now p.loop-i.room w.new.1.1.1.1.0 p.loop-i.i p.loop-i.invariant.2
           w.ensures,
     )
 
-same_length : tie.Need-same-length invariant-loop decreases-loop
-same_length c = c.before.loop.invariant.1
+same_length : tie.Need-shape_of-room invariant-loop decreases-loop
+same_length c = c.before.loop-i.invariant.1
 
 returns : tie.Need-returns invariant-loop decreases-loop
 unfolding ranking_of
 returns c =
-    let p = c.before.loop in
+    let p = c.before.loop-i in
     let a = c.before.before.before.args in
     let e : p.i ≡ triples a.directions.now = omega arith in
     subst (λ (i : ℕ). p.room ≡ rows_of a.directions.now a.stars.now a.tolerance i ++ drop (i * triples a.stars.now) a.room.now) e p.invariant.2
 
-pub write-ranking-spec : {M : Type 1} → statement M
-write-ranking-spec =
+pub write_ranking_spec : {M : Type 1} → statement M
+write_ranking_spec =
     tie.close
     (tie.spec
     invariant-loop

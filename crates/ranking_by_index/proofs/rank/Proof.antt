@@ -25,46 +25,46 @@ use borrow.Author.Rules.{rules}
 use Rattle.ranking_by_index.proofs.rank.Statement.{statement}
 use Rattle.ranking_by_index.proofs.rank.Tie as tie
 
-check-requires : tie.Need-check-requires
+check-requires : tie.Need-check-checked-requires
 check-requires c κs = search rules
 
-enum-known-checked : tie.Need-enum-known-checked
+enum-known-checked : tie.Need-enum_known-checked
 enum-known-checked c = search rules
 
-enum-known-checked-2 : tie.Need-enum-known-checked-2
+enum-known-checked-2 : tie.Need-enum_known-checked-in-Count-1
 enum-known-checked-2 c = search rules
 
 -- the entry, from the place at which the catalogue is known to be valid
-abbrev start : tie.After-known-told2 → tie.Start
+abbrev start : tie.In-Count → tie.Start
 start c = c.before.before.before.before.before.before.before
 
 -- so many records: those of a valid catalogue
-valid : (c : tie.After-known-told2) → Valid (start c).args.catalogue.now × (c.before.checked2.given.0.0 ≡ records_in (start c).args.catalogue.now)
-valid c = checked-valid _ _ (sym c.before.before.before.check.ensures.0 ∙ c.before.checked2.given.1)
+valid : (c : tie.In-Count) → Valid (start c).args.catalogue.now × (c.before.checked-in-Count-1.given.0.0 ≡ records_in (start c).args.catalogue.now)
+valid c = checked-valid _ _ (sym c.before.before.before.check-checked.ensures.0 ∙ c.before.checked-in-Count-1.given.1)
 
 -- the slice that is handed on
-fits : (c : tie.After-stars) → 3 * c.before.before.checked2.given.0.0 ≤ length c.stars.result
-fits c = lent-within _ _ _ c.stars.ensures (valid c.before).1 (valid c.before).0
+fits : (c : tie.After-stars-numbers) → 3 * c.before.before.checked-in-Count-1.given.0.0 ≤ length c.stars-numbers.result
+fits c = lent-within _ _ _ c.stars-numbers.ensures (valid c.before).1 (valid c.before).0
 
-lent : (c : tie.After-stars) → take (3 * c.before.before.checked2.given.0.0) c.stars.result ≡ stars_of (start c.before).args.catalogue.now
-lent c = lent-stars _ _ _ c.stars.ensures (valid c.before).1 (valid c.before).0
+lent : (c : tie.After-stars-numbers) → take (3 * c.before.before.checked-in-Count-1.given.0.0) c.stars-numbers.result ≡ stars_of (start c.before).args.catalogue.now
+lent c = lent-stars _ _ _ c.stars-numbers.ensures (valid c.before).1 (valid c.before).0
 
 abbrev whole : tie.Start → Call
 whole s = let a = s.args in call a.directions.now a.catalogue.now a.index.now a.floor a.tolerance a.room.now
 
-stars-requires : tie.Need-stars-requires
+stars-requires : tie.Need-stars-numbers-requires
 stars-requires c κs = search rules
 
-mul-end : tie.Need-overflow-mul-end
+mul-end : tie.Need-overflow_mul-end
 mul-end c = omega (arith, (valid c.before).1, (valid c.before).0.size.most)
 
-array-share-prefix-numbers : tie.Need-array-share-prefix-numbers
+array-share-prefix-numbers : tie.Need-slice_bounds-numbers-end
 array-share-prefix-numbers c = fits c
 
-slice-aggregate-rank-from : tie.Need-slice-aggregate-rank-from
+slice-aggregate-rank-from : tie.Need-slice_bounds-rank_from-end
 slice-aggregate-rank-from c = sym (length-take-le _ _ (fits c.before))
 
-rank-from-requires : tie.Need-rank-from-requires
+rank-from-requires : tie.Need-rank_from-requires
 rank-from-requires c κs = let t = c.before.before in subst (Listed 512) (sym (lent t)) (valid-listed _ (valid t.before).0)
 
 -- the answer in document 01's terms follows from the outcome
@@ -72,16 +72,16 @@ promised : (c : Call) {o : Outcome} {room : List ℕ} → o ≡ outcome_of c →
     × ((room ≡ room_after c) × (answer_of o ≡ answer_for c))
 promised c e f = let p = in-terms answer_of e (answers c) in (p.0, (f, p.1))
 
-returns : tie.Need-returns
+returns : tie.Need-returns-in-Refused
 returns c =
     let s = c.before.before.before.before.before.before.before in
-    let e = joined (whole s) (checked_refused _ _ (sym c.before.before.before.check.ensures.0 ∙ c.before.checked.given.1)) in
+    let e = joined (whole s) (checked_refused _ _ (sym c.before.before.before.check-checked.ensures.0 ∙ c.before.checked-1.given.1)) in
     promised (whole s) (sym e) (sym (refused-room (whole s) _ e))
 
-same_length : tie.Need-same-length
+same_length : tie.Need-shape_of-room
 same_length c = search rules
 
-returns-2 : tie.Need-returns-2
+returns-2 : tie.Need-returns-in-Count
 returns-2 c =
     let w = c.before.before in
     let t = w.before.before.before in
@@ -90,13 +90,13 @@ returns-2 c =
     let v = (valid t.before).0 in
     let f = to_z-of_z w64 x.floor s.fits.floor in
     promised (whole s)
-    (w.rank-from.ensures.0 ∙ (λ i. outcome_from x.directions.now (lent t i) x.index.now (f i) x.tolerance (length x.room.now))
+    (w.rank_from.ensures.0 ∙ (λ i. outcome_from x.directions.now (lent t i) x.index.now (f i) x.tolerance (length x.room.now))
     ∙ sym (valid-outcome (whole s) v))
-    (w.rank-from.ensures.1 ∙ (λ i. room_from x.directions.now (lent t i) x.index.now (f i) x.tolerance x.room.now)
+    (w.rank_from.ensures.1 ∙ (λ i. room_from x.directions.now (lent t i) x.index.now (f i) x.tolerance x.room.now)
     ∙ sym (valid-room (whole s) v))
 
-pub rank-spec : {M : Type 1} → statement M
-rank-spec =
+pub rank_spec : {M : Type 1} → statement M
+rank_spec =
     tie.close
     (tie.spec
     check-requires

@@ -29,28 +29,28 @@ matches-requires c κs = search rules
 plain-requires : tie.Need-plain-requires
 plain-requires c κs = search rules
 
-returns : tie.Need-returns
+returns : tie.Need-returns-then-not-matches
 returns c =
     let d = c.before.before in
     let a = (start d).args in
     let e = wrong-from a.directions.now a.stars.now a.index.now a.floor a.tolerance (length a.room.now)
-    (sym (tested d) ∙ not-true d.matches.result c.before.if1.true) in
+    (sym (tested d) ∙ not-true d.matches.result c.before.if-not-matches.true) in
     (c.plain.ensures ∙ sym e, sym (refused-from a.directions.now a.stars.now a.index.now a.floor a.tolerance a.room.now _ e))
 
-rank-right-requires : tie.Need-rank-right-requires
+rank-right-requires : tie.Need-rank_right-requires
 rank-right-requires c κs =
     let d = c.before.before in
     let s = start d in
     let a = s.args in (
-      s.pre,
-      index-true a.stars.now a.floor a.index.now (sym (tested d) ∙ not-false d.matches.result c.before.if1.false)
+      s.requires,
+      index-true a.stars.now a.floor a.index.now (sym (tested d) ∙ not-false d.matches.result c.before.if-not-matches.false)
           ∙ ap (index_of a.stars.now) (sym (to_z-of_z w64 s.args.floor s.fits.floor)),
     )
 
-same_length : tie.Need-same-length
+same_length : tie.Need-shape_of-room
 same_length c = search rules
 
-returns-2 : tie.Need-returns-2
+returns-2 : tie.Need-returns
 returns-2 c =
     let w = c.before.before in
     let s = start w.before.before.before in
@@ -61,5 +61,5 @@ returns-2 c =
           (to_z-of_z w64 s.args.floor s.fits.floor),
     )
 
-pub rank-from-spec : {M : Type 1} → statement M
-rank-from-spec = tie.close (tie.spec matches-requires plain-requires returns rank-right-requires same_length returns-2)
+pub rank_from_spec : {M : Type 1} → statement M
+rank_from_spec = tie.close (tie.spec matches-requires plain-requires returns rank-right-requires same_length returns-2)

@@ -28,75 +28,75 @@ use Rattle.ranking_by_index.proofs.rank_right.Tie as tie
 right : (s : tie.Start) → is_index s.args.stars.now s.args.floor s.args.index.now ≡ true
 right s = is-index s.args.stars.now s.args.floor s.args.index.now s.requires.1
 
-abbrev start : tie.After-enum-told → tie.Start
+abbrev start : tie.In-Accepted → tie.Start
 start t = t.before.before.before.before.before
 
-accepted : (t : tie.After-enum-told) → let a = (start t).args in first_applying
+accepted : (t : tie.In-Accepted) → let a = (start t).args in first_applying
     (rows_beside a.directions.now (triples a.stars.now) a.tolerance (length a.room.now)) ≡ Accepted
-accepted t = sym t.before.before.beside.ensures ∙ t.enum_told.given.1
+accepted t = sym t.before.before.beside-outcome.ensures ∙ t.enum_told-1.given.1
 
-sound : (t : tie.After-enum-told) → let a = (start t).args in
+sound : (t : tie.In-Accepted) → let a = (start t).args in
     Directions a.directions.now × (a.tolerance ≤ 10000000000000000) × (directions_in a.directions.now * triples a.stars.now ≤ length a.room.now)
 sound t = let a = (start t).args in beside-sound a.directions.now (triples a.stars.now) a.tolerance (length a.room.now) (accepted t)
 
-outcome-is : (t : tie.After-enum-told) → let a = (start t).args in outcome_from a.directions.now a.stars.now a.index.now a.floor a.tolerance
+outcome-is : (t : tie.In-Accepted) → let a = (start t).args in outcome_from a.directions.now a.stars.now a.index.now a.floor a.tolerance
     (length a.room.now) ≡ Accepted
 outcome-is t = let a = (start t).args in right-from a.directions.now a.stars.now a.index.now a.floor a.tolerance (length a.room.now)
     (right (start t)) ∙ accepted t
 
 -- the index in the terms of the votes: its floor is moved up
-index-from : (r : tie.After-raise) → let a = (start r.before).args in a.index.now ≡ bytes_from a.stars.now r.raise.result
+index-from : (r : tie.After-raise-raised) → let a = (start r.before).args in a.index.now ≡ bytes_from a.stars.now r.raise-raised.result
 index-from r =
     let s = start r.before in
     let a = s.args in
-    s.pre.1
+    s.requires.1
     ∙ sym (index_is a.stars.now a.floor)
-    ∙ ap (bytes_from a.stars.now) (sym (r.raise.ensures ∙ ap raised (to_z-of_z w64 a.floor s.fits.floor)))
+    ∙ ap (bytes_from a.stars.now) (sym (r.raise-raised.ensures ∙ ap raised (to_z-of_z w64 a.floor s.fits.floor)))
 
 -- ---- the needs
 
-beside-requires : tie.Need-beside-requires
+beside-requires : tie.Need-beside-outcome-requires
 beside-requires c κs = search rules
 
-enum-known-outcome : tie.Need-enum-known-outcome
+enum-known-outcome : tie.Need-enum_known-outcome
 enum-known-outcome c = search rules
 
-enum_told : tie.Need-enum-told
+enum_told : tie.Need-enum_told-1
 enum_told c = search rules
 
-raise-requires : tie.Need-raise-requires
+raise-requires : tie.Need-raise-raised-requires
 raise-requires c κs = search rules
 
-write-ranking-requires : tie.Need-write-ranking-requires
+write-ranking-requires : tie.Need-write_ranking-requires
 write-ranking-requires c κs =
     let r = c.before in
     let t = r.before in
     (record { few = (sound t).0.most; near = (sound t).0.within }, ((start t).requires.0, ((sound t).2, ((sound t).1, index-from r))))
 
-returns : tie.Need-returns
+returns : tie.Need-returns-in-Refused
 returns c =
     let b = c.before.before.before in
     let s = b.before.before.before in
     let a = s.args in
     let e = right-from a.directions.now a.stars.now a.index.now a.floor a.tolerance (length a.room.now) (right s)
-    ∙ sym b.beside.ensures ∙ c.before.outcome.given.1 in
+    ∙ sym b.beside-outcome.ensures ∙ c.before.outcome-1.given.1 in
     (sym e, sym (refused-from a.directions.now a.stars.now a.index.now a.floor a.tolerance a.room.now _ e))
 
-same_length : tie.Need-same-length
+same_length : tie.Need-shape_of-room
 same_length c = search rules
 
-returns-2 : tie.Need-returns-2
+returns-2 : tie.Need-returns-in-Accepted
 returns-2 c =
     let w = c.before.before in
     let t = w.before.before.before in
     let a = (start t).args in (
       sym (outcome-is t),
-      w.write-ranking.ensures ∙ sym (written_from a.directions.now a.stars.now a.index.now a.floor a.tolerance
+      w.write_ranking.ensures ∙ sym (written_from a.directions.now a.stars.now a.index.now a.floor a.tolerance
           a.room.now (outcome-is t)),
     )
 
-pub rank-right-spec : {M : Type 1} → statement M
-rank-right-spec =
+pub rank_right_spec : {M : Type 1} → statement M
+rank_right_spec =
     tie.close
     (tie.spec
     beside-requires

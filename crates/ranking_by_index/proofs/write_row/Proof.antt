@@ -9,16 +9,16 @@ use Rattle.ranking.specs.Rows.{row-by-counters}
 use Rattle.ranking_by_index.proofs.write_row.Statement.{statement}
 use Rattle.ranking_by_index.proofs.write_row.Tie as tie
 
-votes-for-requires : tie.Need-votes-for-requires
+votes-for-requires : tie.Need-votes_for-votes-requires
 votes-for-requires c κs = search rules
 
-slice-aggregate-write : tie.Need-slice-aggregate-write
+slice-aggregate-write : tie.Need-slice_bounds-write-end
 slice-aggregate-write c = search rules
 
 write-requires : tie.Need-write-requires
 write-requires c κs = search rules
 
-same_length : tie.Need-same-length
+same_length : tie.Need-shape_of-row
 same_length c = search rules
 
 returns : tie.Need-returns
@@ -26,9 +26,9 @@ returns c =
     let w = c.before.before in
     let s = w.before.before.before.before.before.before in
     let x = s.args in
-    w.write.ensures ∙ ap (λ (v : List ℕ). row_by v (length x.row.now)) w.before.before.before.votes-for.ensures
+    w.write.ensures ∙ ap (λ (v : List ℕ). row_by v (length x.row.now)) w.before.before.before.votes_for-votes.ensures
     ∙ row-by-counters x.directions.now x.stars.now x.tolerance x.i (length x.row.now) s.requires.1.1.0.1 s.requires.1.0.few
 
-pub write-row-spec : {M : Type 1} → statement M
-write-row-spec =
+pub write_row_spec : {M : Type 1} → statement M
+write_row_spec =
     tie.close (tie.spec votes-for-requires slice-aggregate-write write-requires same_length returns)

@@ -16,24 +16,24 @@ use Rattle.ranking_votes.proofs.agreeing_near.Tie as tie
 abbrev pair : tie.Start → Num w64
 pair s = arg s.requires.1.1.0 tt
 
-mark-at-requires : tie.Need-mark-at-requires
+mark-at-requires : tie.Need-mark_at-requires
 mark-at-requires c κs = (c.before.requires.1.1.1.0, near (pair c.before) tt)
 
-returns : tie.Need-returns
+returns : tie.Need-returns-then-mark_at-eq0
 returns c =
     let s = c.before.before.before in
     let x = s.args in
     sym (none-near x.near.now x.products.now x.count x.i x.p x.tolerance s.requires.1.1.1.1 s.requires.0.1 s.requires.1.1.0
-    (ap (λ (q : ℤ). get_or x.near.now (place_of q) 0) (sym (back (pair s))) ∙ sym c.before.mark-at.ensures ∙ c.if1.true))
+    (ap (λ (q : ℤ). get_or x.near.now (place_of q) 0) (sym (back (pair s))) ∙ sym c.before.mark_at.ensures ∙ c.if-mark_at-eq0.true))
 
-agreeing-with-requires : tie.Need-agreeing-with-requires
+agreeing-with-requires : tie.Need-agreeing_with-requires
 agreeing-with-requires c κs = search rules
 
-returns-2 : tie.Need-returns-2
+returns-2 : tie.Need-returns
 returns-2 c =
     let s = c.before.before.before.before in
     let x = s.args in
-    c.agreeing-with.ensures ∙ (λ k. number x.count (agrees_with x.products.now x.i (back (pair s) k) x.tolerance))
+    c.agreeing_with.ensures ∙ (λ k. number x.count (agrees_with x.products.now x.i (back (pair s) k) x.tolerance))
 
-pub agreeing-near-spec : {M : Type 1} → statement M
-agreeing-near-spec = tie.close (tie.spec mark-at-requires returns agreeing-with-requires returns-2)
+pub agreeing_near_spec : {M : Type 1} → statement M
+agreeing_near_spec = tie.close (tie.spec mark-at-requires returns agreeing-with-requires returns-2)

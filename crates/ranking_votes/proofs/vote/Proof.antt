@@ -14,17 +14,17 @@ agreed c =
     let s = c.before.before in
     c.agree.ensures ∙ (λ i. agreeing (back (arg {w = w64} s.requires.0 tt) i) (back (arg {w = w64} s.requires.1 tt) i) s.args.tolerance)
 
-returns : tie.Need-returns
-returns c = simp (eq-eqb _ _ c.if1.true)
+returns : tie.Need-returns-then-j-i
+returns c = simp (eq-eqb _ _ c.if-j-i.true)
 
 agree-requires : tie.Need-agree-requires
 agree-requires c κs = search rules
 
-returns-2 : tie.Need-returns-2
-returns-2 c = simp (ne_eqb _ _ c.before.before.if1.false, sym (agreed c.before) ∙ c.if2.true)
+returns-2 : tie.Need-returns-then-agree
+returns-2 c = simp (ne_eqb _ _ c.before.before.if-j-i.false, sym (agreed c.before) ∙ c.if-agree.true)
 
-returns-3 : tie.Need-returns-3
-returns-3 c = simp (ne_eqb _ _ c.before.before.if1.false, sym (agreed c.before) ∙ c.if2.false)
+returns-3 : tie.Need-returns
+returns-3 c = simp (ne_eqb _ _ c.before.before.if-j-i.false, sym (agreed c.before) ∙ c.if-agree.false)
 
-pub vote-spec : {M : Type 1} → statement M
-vote-spec = tie.close (tie.spec returns agree-requires returns-2 returns-3)
+pub vote_spec : {M : Type 1} → statement M
+vote_spec = tie.close (tie.spec returns agree-requires returns-2 returns-3)

@@ -12,5 +12,5 @@ returns c =
     let f = c.first.ensures in
     record { first = first_fits _ c.before.before.args.ranking.now _ _ _ _ f.first; rest = f.rest; size = f.size }
 
-pub first-fit-spec : {M : Type 1} → statement M
-first-fit-spec = tie.close (tie.spec first-requires returns)
+pub first_fit_spec : {M : Type 1} → statement M
+first_fit_spec = tie.close (tie.spec first-requires returns)

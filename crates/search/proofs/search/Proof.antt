@@ -23,47 +23,47 @@ use Rattle.search.proofs.Answers as answers
 use Rattle.search.proofs.search.Statement.{statement}
 use Rattle.search.proofs.search.Tie as tie
 
-abbrev start : tie.After-enum-told → tie.Start
+abbrev start : tie.In-Accepted → tie.Start
 start c = c.before.before.before.before.before
 
-accepted : (c : tie.After-enum-told) → first_applying (refusals_of (start c).args.directions.now (start c).args.catalogue.now (start c).args.needed
+accepted : (c : tie.In-Accepted) → first_applying (refusals_of (start c).args.directions.now (start c).args.catalogue.now (start c).args.needed
     (start c).args.tolerance (start c).args.ranking.now) ≡ Accepted
-accepted c = sym c.before.before.first-refusal.ensures ∙ c.enum_told.given.1
+accepted c = sym c.before.before.first_refusal-outcome.ensures ∙ c.enum_told-1.given.1
 
-valid : (c : tie.After-enum-told) → Valid (start c).args.catalogue.now
+valid : (c : tie.In-Accepted) → Valid (start c).args.catalogue.now
 valid c = answers.valid _ _ _ _ _ (accepted c)
 
-first-refusal-requires : tie.Need-first-refusal-requires
+first-refusal-requires : tie.Need-first_refusal-outcome-requires
 first-refusal-requires c κs = search rules
 
-enum-known-outcome : tie.Need-enum-known-outcome
+enum-known-outcome : tie.Need-enum_known-outcome
 enum-known-outcome c = search rules
 
-enum_told : tie.Need-enum-told
+enum_told : tie.Need-enum_told-1
 enum_told c = search rules
 
-stars-requires : tie.Need-stars-requires
+stars-requires : tie.Need-stars-numbers-requires
 stars-requires c κs = search rules
 
-records-requires : tie.Need-records-requires
+records-requires : tie.Need-records-end-requires
 records-requires c κs = search rules
 
-mul-end : tie.Need-overflow-mul-end
+mul-end : tie.Need-overflow_mul-end
 mul-end c = search rules
 
-array-share-prefix-numbers : tie.Need-array-share-prefix-numbers
-array-share-prefix-numbers c = lent-within _ _ _ c.before.stars.ensures c.records.ensures (valid c.before.before)
+array-share-prefix-numbers : tie.Need-slice_bounds-numbers-end
+array-share-prefix-numbers c = lent-within _ _ _ c.before.stars-numbers.ensures c.records-end.ensures (valid c.before.before)
 
 -- the slice that is handed on
-lent : (c : tie.After-numbers) → take (3 * c.before.records.result) c.before.before.stars.result
+lent : (c : tie.After-numbers-1) → take (3 * c.before.records-end.result) c.before.before.stars-numbers.result
     ≡ stars_of (start c.before.before.before).args.catalogue.now
-lent c = lent-stars _ _ _ c.before.before.stars.ensures c.before.records.ensures (valid c.before.before.before)
+lent c = lent-stars _ _ _ c.before.before.stars-numbers.ensures c.before.records-end.ensures (valid c.before.before.before)
 
-slice-aggregate-first-fit : tie.Need-slice-aggregate-first-fit
-slice-aggregate-first-fit c = sym (length-take-le _ _ (lent-within _ _ _ c.before.before.stars.ensures c.before.records.ensures
+slice-aggregate-first-fit : tie.Need-slice_bounds-first_fit-end
+slice-aggregate-first-fit c = sym (length-take-le _ _ (lent-within _ _ _ c.before.before.stars-numbers.ensures c.before.records-end.ensures
     (valid c.before.before.before)))
 
-first-fit-requires : tie.Need-first-fit-requires
+first-fit-requires : tie.Need-first_fit-answer-requires
 first-fit-requires c κs =
     let a = (start c.before.before.before).args in
     subst (λ (stars : List ℤ). Input (setup_of a.directions.now stars a.needed a.tolerance) a.ranking.now a.directions.now stars)
@@ -78,10 +78,10 @@ both : (directions : List ℤ) (bytes : List ℕ) (needed tolerance : ℕ) (ws :
     → Identified directions bytes needed tolerance ws r × (r ≡ identification_of directions bytes needed tolerance ws)
 both directions bytes needed tolerance ws r h = (h, answers.identified directions bytes needed tolerance ws r h)
 
-returns : tie.Need-returns
-returns c = both _ _ _ _ _ _ (answers.refused-identified _ _ _ _ _ _ (sym c.before.before.before.first-refusal.ensures ∙ c.before.outcome.given.1))
+returns : tie.Need-returns-in-Refused
+returns c = both _ _ _ _ _ _ (answers.refused-identified _ _ _ _ _ _ (sym c.before.before.before.first_refusal-outcome.ensures ∙ c.before.outcome-1.given.1))
 
-returns-2 : tie.Need-returns-2
+returns-2 : tie.Need-returns-in-Accepted
 returns-2 c =
     let n = c.before.before in
     let a = (start n.before.before.before).args in
@@ -89,11 +89,11 @@ returns-2 c =
     (subst (Identified a.directions.now a.catalogue.now a.needed a.tolerance a.ranking.now) (sym c.settled.ensures)
     (answers.searched-identified _ _ _ _ _ (accepted n.before.before.before) _
     (subst (λ (stars : List ℤ). FirstFit (setup_of a.directions.now stars a.needed a.tolerance) a.ranking.now a.directions.now stars
-    c.before.first-fit.result) (lent n)
-    c.before.first-fit.ensures)))
+    c.before.first_fit-answer.result) (lent n)
+    c.before.first_fit-answer.ensures)))
 
-pub search-spec : {M : Type 1} → statement M
-search-spec =
+pub search_spec : {M : Type 1} → statement M
+search_spec =
     tie.close
     (tie.spec
     first-refusal-requires

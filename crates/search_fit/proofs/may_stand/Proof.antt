@@ -13,14 +13,14 @@ asked-on {b} {c} e f g = rw (sym e ∙ f) g
 passes-requires : tie.Need-passes-requires
 passes-requires c κs = search rules
 
-returns : tie.Need-returns
-returns c = turned_down _ c.before.passes.ensures (not-true c.before.passes.result c.if1.true)
+returns : tie.Need-returns-then-not-passes
+returns c = turned_down _ c.before.passes.ensures c.if-not-passes.true
 
-is-upright-requires : tie.Need-is-upright-requires
+is-upright-requires : tie.Need-is_upright-requires
 is-upright-requires c κs = search rules
 
-returns-2 : tie.Need-returns-2
-returns-2 c = asked-on c.before.before.passes.ensures (not-false c.before.before.passes.result c.before.if1.false) c.is-upright.ensures
+returns-2 : tie.Need-returns
+returns-2 c = asked-on c.before.before.passes.ensures c.before.if-not-passes.false c.is_upright.ensures
 
-pub may-stand-spec : {M : Type 1} → statement M
-may-stand-spec = tie.close (tie.spec passes-requires returns is-upright-requires returns-2)
+pub may_stand_spec : {M : Type 1} → statement M
+may_stand_spec = tie.close (tie.spec passes-requires returns is-upright-requires returns-2)

@@ -13,5 +13,5 @@ returns c =
     let a = c.before.before.args in
     record { first = first-rival _ a.ranking.now _ _ _ _ a.ours f.first; rest = f.rest; size = f.size }
 
-pub first-rival-spec : {M : Type 1} → statement M
-first-rival-spec = tie.close (tie.spec first-requires returns)
+pub first_rival_spec : {M : Type 1} → statement M
+first_rival_spec = tie.close (tie.spec first-requires returns)

@@ -28,46 +28,46 @@ ours_in o = identification_of o.args.directions.now o.args.catalogue.now o.args.
 same_outcome : {a b : Identification} → a ≡ b → b.outcome ≡ a.outcome
 same_outcome e = ap (λ (i : Identification). i.outcome) (sym e)
 
-abbrev start : tie.After-enum-told → tie.Start
+abbrev start : tie.In-Accepted → tie.Start
 start c = c.before.before.before.before.before.before
 
-accepted : (c : tie.After-enum-told) → (ours_in (start c)).outcome ≡ Accepted
-accepted c = same_outcome c.before.before.before.search.ensures.1 ∙ c.enum_told.given.1
+accepted : (c : tie.In-Accepted) → (ours_in (start c)).outcome ≡ Accepted
+accepted c = same_outcome c.before.before.before.search-identification.ensures.1 ∙ c.enum_told-1.given.1
 
-valid : (c : tie.After-enum-told) → Valid (start c).args.catalogue.now
+valid : (c : tie.In-Accepted) → Valid (start c).args.catalogue.now
 valid c = answers.valid _ _ _ _ _ (rivals.none-refuses _ _ _ _ _ (accepted c))
 
-search-requires : tie.Need-search-requires
+search-requires : tie.Need-search-identification-requires
 search-requires c κs = search rules
 
-enum-known-outcome : tie.Need-enum-known-outcome
+enum-known-outcome : tie.Need-enum_known-outcome
 enum-known-outcome c = search rules
 
-enum_told : tie.Need-enum-told
+enum_told : tie.Need-enum_told-1
 enum_told c = search rules
 
-stars-requires : tie.Need-stars-requires
+stars-requires : tie.Need-stars-numbers-requires
 stars-requires c κs = search rules
 
-records-requires : tie.Need-records-requires
+records-requires : tie.Need-records-end-requires
 records-requires c κs = search rules
 
-mul-end : tie.Need-overflow-mul-end
+mul-end : tie.Need-overflow_mul-end
 mul-end c = search rules
 
-array-share-prefix-numbers : tie.Need-array-share-prefix-numbers
-array-share-prefix-numbers c = lent-within _ _ _ c.before.stars.ensures c.records.ensures (valid c.before.before)
+array-share-prefix-numbers : tie.Need-slice_bounds-numbers-end
+array-share-prefix-numbers c = lent-within _ _ _ c.before.stars-numbers.ensures c.records-end.ensures (valid c.before.before)
 
 -- the slice that is handed on
-lent : (c : tie.After-numbers) → take (3 * c.before.records.result) c.before.before.stars.result
+lent : (c : tie.After-numbers-1) → take (3 * c.before.records-end.result) c.before.before.stars-numbers.result
     ≡ stars_of (start c.before.before.before).args.catalogue.now
-lent c = lent-stars _ _ _ c.before.before.stars.ensures c.before.records.ensures (valid c.before.before.before)
+lent c = lent-stars _ _ _ c.before.before.stars-numbers.ensures c.before.records-end.ensures (valid c.before.before.before)
 
-slice-aggregate-first-rival : tie.Need-slice-aggregate-first-rival
-slice-aggregate-first-rival c = sym (length-take-le _ _ (lent-within _ _ _ c.before.before.stars.ensures c.before.records.ensures
+slice-aggregate-first-rival : tie.Need-slice_bounds-first_rival-end
+slice-aggregate-first-rival c = sym (length-take-le _ _ (lent-within _ _ _ c.before.before.stars-numbers.ensures c.before.records-end.ensures
     (valid c.before.before.before)))
 
-first-rival-requires : tie.Need-first-rival-requires
+first-rival-requires : tie.Need-first_rival-answer-requires
 first-rival-requires c κs =
     let a = (start c.before.before.before).args in
     subst (λ (stars : List ℤ). Input (setup_of a.directions.now stars a.needed a.tolerance) a.ranking.now a.directions.now stars)
@@ -82,29 +82,29 @@ both : (directions : List ℤ) (bytes : List ℕ) (needed tolerance : ℕ) (ws :
     → Contested directions bytes needed tolerance ws r × (r ≡ contest_of directions bytes needed tolerance ws)
 both directions bytes needed tolerance ws r h = (h, rivals.contested directions bytes needed tolerance ws r h)
 
-returns : tie.Need-returns
+returns : tie.Need-returns-in-Refused
 returns c =
-    both _ _ _ _ _ _ (rivals.refused-contested _ _ _ _ _ _ (same_outcome c.before.before.before.before.search.ensures.1
-    ∙ c.before.outcome.given.1))
+    both _ _ _ _ _ _ (rivals.refused-contested _ _ _ _ _ _ (same_outcome c.before.before.before.before.search-identification.ensures.1
+    ∙ c.before.outcome-1.given.1))
 
 -- ours in the code is the search's answer
-rival-of-ours : (c : tie.After-first-rival) → FirstRival (setup_of (start c.before.before.before.before).args.directions.now
+rival-of-ours : (c : tie.After-first_rival-answer) → FirstRival (setup_of (start c.before.before.before.before).args.directions.now
     (stars_of (start c.before.before.before.before).args.catalogue.now) (start c.before.before.before.before).args.needed
     (start c.before.before.before.before).args.tolerance) (ours_in (start c.before.before.before.before)).stars
     (start c.before.before.before.before).args.ranking.now (start c.before.before.before.before).args.directions.now
-    (stars_of (start c.before.before.before.before).args.catalogue.now) c.first-rival.result
+    (stars_of (start c.before.before.before.before).args.catalogue.now) c.first_rival-answer.result
 rival-of-ours c =
     let n = c.before in
     let e = n.before.before.before in
     let a = (start e).args in
     subst (λ (i : Identification). FirstRival (setup_of a.directions.now (stars_of a.catalogue.now) a.needed a.tolerance) i.stars
-    a.ranking.now a.directions.now (stars_of a.catalogue.now) c.first-rival.result)
-    e.before.before.before.search.ensures.1
-    (subst (λ (stars : List ℤ). FirstRival (setup_of a.directions.now stars a.needed a.tolerance) e.before.before.before.search.result.stars
-    a.ranking.now a.directions.now stars c.first-rival.result) (lent n)
-    c.first-rival.ensures)
+    a.ranking.now a.directions.now (stars_of a.catalogue.now) c.first_rival-answer.result)
+    e.before.before.before.search-identification.ensures.1
+    (subst (λ (stars : List ℤ). FirstRival (setup_of a.directions.now stars a.needed a.tolerance) e.before.before.before.search-identification.result.stars
+    a.ranking.now a.directions.now stars c.first_rival-answer.result) (lent n)
+    c.first_rival-answer.ensures)
 
-returns-2 : tie.Need-returns-2
+returns-2 : tie.Need-returns-in-Accepted
 returns-2 c =
     let e = c.before.before.before.before.before in
     let a = (start e).args in
@@ -112,8 +112,8 @@ returns-2 c =
     (subst (Contested a.directions.now a.catalogue.now a.needed a.tolerance a.ranking.now) (sym c.settled.ensures)
     (rivals.judged-contested _ _ _ _ _ (accepted e) _ (rival-of-ours c.before)))
 
-pub rival-spec : {M : Type 1} → statement M
-rival-spec =
+pub rival_spec : {M : Type 1} → statement M
+rival_spec =
     tie.close
     (tie.spec
     search-requires

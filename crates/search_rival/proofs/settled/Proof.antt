@@ -2,11 +2,11 @@
 use Rattle.search_rival.proofs.settled.Statement.{statement}
 use Rattle.search_rival.proofs.settled.Tie as tie
 
-returns : tie.Need-returns
-returns c = rw c.if1.true
+returns : tie.Need-returns-then-answer
+returns c = rw c.if-answer.true
 
-returns-2 : tie.Need-returns-2
-returns-2 c = rw c.if1.false
+returns-2 : tie.Need-returns-else-answer
+returns-2 c = rw c.if-answer.false
 
-pub settled-spec : {M : Type 1} → statement M
-settled-spec = tie.close (tie.spec returns returns-2)
+pub settled_spec : {M : Type 1} → statement M
+settled_spec = tie.close (tie.spec returns returns-2)

@@ -55,7 +55,7 @@ number-returns : (t : ℕ) → number-lts.Need-returns (byte-Reads.Asked, byte-R
 number-returns t c =
     let o = c.before.before in
     let s = o.before.before.before.before in
-    let w = small-wrote s.args.n o.before.before.if1.true o.byte.ensures in
+    let w = small-wrote s.args.n o.before.before.if-n-lt10.true o.byte.ensures in
     (w, bounded s.ranges.n w)
 
 number-number-requires : (t : ℕ) → number-lts.Need-number-requires (byte-Reads.Asked, byte-Reads.Learnt, number-below t, number.Post) (number_at t) number.Post
@@ -71,18 +71,18 @@ number-byte-requires-2 : (t : ℕ) → number-lts.Need-byte-requires-2 (byte-Rea
 number-byte-requires-2 t c κs = search rules
 
 number-same-length-2 : (t : ℕ) → number-lts.Need-same-length-2 (byte-Reads.Asked, byte-Reads.Learnt, number-below t, number.Post) (number_at t) number.Post
-number-same-length-2 t c = let o = c.before.before in wrote-length o.byte2.ensures ∙ wrote-length o.before.before.before.before.number.ensures.0
+number-same-length-2 t c = let o = c.before.before in wrote-length o.byte-2.ensures ∙ wrote-length o.before.before.before.before.number-next.ensures.0
 
 number-returns-2 : (t : ℕ) → number-lts.Need-returns-2 (byte-Reads.Asked, byte-Reads.Learnt, number-below t, number.Post) (number_at t) number.Post
 number-returns-2 t c =
     let o = c.before.before in
     let n = o.before.before.before.before in
     let s = n.before.before.before.before in
-    let w = large-wrote s.args.n n.before.before.if1.false n.number.ensures.0 o.byte2.ensures in
+    let w = large-wrote s.args.n n.before.before.if-n-lt10.false n.number-next.ensures.0 o.byte-2.ensures in
     (w, bounded s.ranges.n w)
 
-pub +number-spec : {M : Type 1} → statement M
-+number-spec = close μ-number λ t. number-lts.spec (byte-Reads.Asked, byte-Reads.Learnt, number-below t, number.Post)
+pub +number_spec : {M : Type 1} → statement M
++number_spec = close μ-number λ t. number-lts.spec (byte-Reads.Asked, byte-Reads.Learnt, number-below t, number.Post)
     (number_at t)
     number.Post
     (number-cast-byte t)

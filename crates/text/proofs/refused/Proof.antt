@@ -9,16 +9,16 @@ use Rattle.text.proofs.refused.Tie as tie
 slice-aggregate-labelled : tie.Need-slice-aggregate-labelled
 slice-aggregate-labelled c = search rules
 
-cast-labelled : tie.Need-overflow-cast-labelled
+cast-labelled : tie.Need-overflow_cast-refusal
 cast-labelled c = search rules
 
-labelled-requires : tie.Need-labelled-requires
+labelled-requires : tie.Need-labelled-number-requires
 labelled-requires c κs = search rules
 
 slice-aggregate-labelled-2 : tie.Need-slice-aggregate-labelled-2
 slice-aggregate-labelled-2 c = search rules
 
-labelled-requires-2 : tie.Need-labelled-requires-2
+labelled-requires-2 : tie.Need-labelled-place-requires
 labelled-requires-2 c κs = search rules
 
 slice-aggregate-word : tie.Need-slice-aggregate-word
@@ -27,7 +27,7 @@ slice-aggregate-word c = search rules
 word-requires : tie.Need-word-requires
 word-requires c κs = search rules
 
-same_length : tie.Need-same-length
+same_length : tie.Need-shape_of-room
 same_length c = search rules
 
 returns : tie.Need-returns
@@ -36,12 +36,12 @@ returns c =
     let w3 = c.before.before in
     let w2 = w3.before.before.before.before.before in
     let w1 = w2.before.before.before.before.before in (
-      wrote_then (wrote_then w1.labelled.ensures.0 w2.labelled2.ensures.0) w3.word.ensures,
-      omega (arith, w1.labelled.ensures.1, w2.labelled2.ensures.1, w3.word.ensures.place),
+      wrote_then (wrote_then w1.labelled-number.ensures.0 w2.labelled-place.ensures.0) w3.word.ensures,
+      omega (arith, w1.labelled-number.ensures.1, w2.labelled-place.ensures.1, w3.word.ensures.place),
     )
 
-pub refused-spec : {M : Type 1} → statement M
-refused-spec =
+pub refused_spec : {M : Type 1} → statement M
+refused_spec =
     tie.close
     (tie.spec
     slice-aggregate-labelled

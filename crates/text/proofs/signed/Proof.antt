@@ -24,55 +24,55 @@ above : {a b : List ℕ} {at to size : ℕ} (z : ℤ) → lt_z z (pos 0) ≡ fal
 unfolding signed_decimal
 above z h e p = rw h (rw (← e) p)
 
-abbrev start : tie.After-abs → tie.Start
+abbrev start : tie.After-abs-size → tie.Start
 start c = c.before.before
 
 abbrev zero : Num w64
 zero = lit (pos 0) tt
 
-abbrev z : tie.After-abs → Num w64
+abbrev z : tie.After-abs-size → Num w64
 z c = param (start c).ranges.z
 
-size : (c : tie.After-abs) → c.abs.result ≡ nat_abs (start c).args.z
-size c = c.abs.ensures ∙ ap nat_abs (back (z c))
+size : (c : tie.After-abs-size) → c.abs-size.result ≡ nat_abs (start c).args.z
+size c = c.abs-size.ensures ∙ ap nat_abs (back (z c))
 
-abs-requires : tie.Need-abs-requires
+abs-requires : tie.Need-abs-size-requires
 abs-requires c κs = search rules
 
-byte-requires : tie.Need-byte-requires
+byte-requires : tie.Need-byte-next-requires
 byte-requires c κs = search rules
 
 number-requires : tie.Need-number-requires
 number-requires c κs = search rules
 
-same_length : tie.Need-same-length
+same_length : tie.Need-shape_of-room-then-z-lt0
 same_length c = search rules
 
-returns : tie.Need-returns
+returns : tie.Need-returns-then-z-lt0
 returns c =
     let o = c.before.before in
     let b = o.before.before.before.before in
     let t = b.before.before in (
-      below (start t.before).args.z (tested-lt (z t.before) zero t.if1.true) (size t.before) b.byte.ensures o.number.ensures.0,
-      omega (arith, o.number.ensures.1, b.byte.ensures.place),
+      below (start t.before).args.z (tested-lt (z t.before) zero t.if-z-lt0.true) (size t.before) b.byte-next.ensures o.number.ensures.0,
+      omega (arith, o.number.ensures.1, b.byte-next.ensures.place),
     )
 
 number-requires-2 : tie.Need-number-requires-2
 number-requires-2 c κs = search rules
 
-same-length-2 : tie.Need-same-length-2
+same-length-2 : tie.Need-shape_of-room
 same-length-2 c = search rules
 
-returns-2 : tie.Need-returns-2
+returns-2 : tie.Need-returns
 returns-2 c =
     let o = c.before.before in
     let t = o.before.before in (
-      above (start t.before).args.z (tested-lt (z t.before) zero t.if1.false) (size t.before) o.number2.ensures.0,
-      omega (arith, o.number2.ensures.1),
+      above (start t.before).args.z (tested-lt (z t.before) zero t.if-z-lt0.false) (size t.before) o.number-2.ensures.0,
+      omega (arith, o.number-2.ensures.1),
     )
 
-pub signed-spec : {M : Type 1} → statement M
-signed-spec =
+pub signed_spec : {M : Type 1} → statement M
+signed_spec =
     tie.close
     (tie.spec
     abs-requires

@@ -12,10 +12,10 @@ use Rattle.text.specs.WrittenLaws.{wrote_none, wrote_then, wrote-length}
 use Rattle.text.proofs.word.Statement.{statement}
 use Rattle.text.proofs.word.Tie as tie
 
-abbrev invariant-loop : tie.invariant-loop
+abbrev invariant-loop : tie.invariant-loop-i
 invariant-loop room₀ at bytes next₀ i₀ room next i = (i ≤ length bytes) × Wrote room₀ at (take i bytes) room next
 
-abbrev decreases-loop : tie.decreases-loop
+abbrev decreases-loop : tie.decreases-loop-i
 decreases-loop room₀ at bytes next₀ i₀ room next i = length bytes - i
 
 -- one byte more
@@ -23,40 +23,40 @@ further : {room₀ room room' : List ℕ} {at next next' : ℕ} (bytes : List �
     → Wrote room next (get_or bytes i 0 ∷ []) room' next' → Wrote room₀ at (take (i + 1) bytes) room' next'
 further bytes i h p q = rw (add-one i, take-suc bytes i 0 h) (wrote_then p q)
 
-loop-holds : tie.Need-loop-init invariant-loop decreases-loop
+loop-holds : tie.Need-loop-i-init invariant-loop decreases-loop
 loop-holds c = (search rules, wrote_none _ _)
 
-shared-slice-read-byte : tie.Need-shared-slice-read-byte invariant-loop decreases-loop
+shared-slice-read-byte : tie.Need-bounds-bytes-i invariant-loop decreases-loop
 shared-slice-read-byte c = search rules
 
-byte-requires : tie.Need-byte-requires invariant-loop decreases-loop
+byte-requires : tie.Need-byte-next-requires invariant-loop decreases-loop
 byte-requires c κs = search rules
 
-add-i : tie.Need-overflow-add-i invariant-loop decreases-loop
+add-i : tie.Need-overflow_add-i invariant-loop decreases-loop
 add-i c = search rules
 
-loop-less : tie.Need-loop-smaller invariant-loop decreases-loop
+loop-less : tie.Need-loop-i-smaller invariant-loop decreases-loop
 loop-less c = search rules
 
-loop-again : tie.Need-loop-preserved invariant-loop decreases-loop
+loop-again : tie.Need-loop-i-preserved invariant-loop decreases-loop
 loop-again c =
     let b = c.before.before in
     let o = b.before.before.before in
-    (search rules, further _ o.before.loop.i o.loop-test.true o.before.loop.invariant.1 b.byte.ensures)
+    (search rules, further _ o.before.loop-i.i o.loop-i-test.true o.before.loop-i.invariant.1 b.byte-next.ensures)
 
-same_length : tie.Need-same-length invariant-loop decreases-loop
-same_length c = wrote-length c.before.loop.invariant.1
+same_length : tie.Need-shape_of-room invariant-loop decreases-loop
+same_length c = wrote-length c.before.loop-i.invariant.1
 
 returns : tie.Need-returns invariant-loop decreases-loop
 returns c =
-    let l = c.before.loop in
+    let l = c.before.loop-i in
     let s = c.before.before.before.before in
     let bytes = s.args.bytes.now in
     let e : l.i ≡ length bytes = omega arith in
     subst (λ (t : List ℕ). Wrote s.args.room.now s.args.at t l.room l.next) (ap (λ (k : ℕ). take k bytes) e ∙ take-length bytes) l.invariant.1
 
-pub word-spec : {M : Type 1} → statement M
-word-spec =
+pub word_spec : {M : Type 1} → statement M
+word_spec =
     tie.close
     (tie.spec
     invariant-loop

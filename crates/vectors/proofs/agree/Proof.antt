@@ -13,7 +13,7 @@ use Rattle.vectors.proofs.agree.Tie as tie
 abbrev apart : tie.Start → Num w64
 apart s = sub (arg s.requires.0 tt) (arg s.requires.1 tt) tt
 
-sub-abs : tie.Need-overflow-sub-abs
+sub-abs : tie.Need-overflow_sub-p
 sub-abs c = fits (apart c)
 
 abs-requires : tie.Need-abs-requires
@@ -23,5 +23,5 @@ returns : tie.Need-returns
 unfolding agreeing
 returns c = ap (λ (n : ℕ). leb n c.before.args.tolerance) (c.abs.ensures ∙ ap nat_abs (back (apart c.before)))
 
-pub agree-spec : {M : Type 1} → statement M
-agree-spec = tie.close (tie.spec sub-abs abs-requires returns)
+pub agree_spec : {M : Type 1} → statement M
+agree_spec = tie.close (tie.spec sub-abs abs-requires returns)

@@ -7,30 +7,30 @@ use Rattle.words.specs.Bytes.{bytes_of}
 use Rattle.words.proofs.put_u16.Statement.{statement}
 use Rattle.words.proofs.put_u16.Tie as tie
 
-cast-room : tie.Need-overflow-cast-room
+cast-room : tie.Need-overflow_cast-room
 cast-room c = search rules
 
-slice-write-room : tie.Need-slice-write-room
+slice-write-room : tie.Need-bounds-room-at
 slice-write-room c = search rules
 
-cast-room-2 : tie.Need-overflow-cast-room-2
+cast-room-2 : tie.Need-overflow_cast-room-2
 cast-room-2 c = search rules
 
-add-room : tie.Need-overflow-add-room
+add-room : tie.Need-overflow_add-room
 add-room c = search rules
 
-slice-write-room-2 : tie.Need-slice-write-room-2
+slice-write-room-2 : tie.Need-bounds-room-at-2
 slice-write-room-2 c = simp length-set (omega arith)
 
-same_length : tie.Need-same-length
+same_length : tie.Need-shape_of-room
 same_length c = search rules
 
 returns : tie.Need-returns
 unfolding bytes_of
 returns c = simp unary_clauses
 
-pub put-u16-spec : {M : Type 1} → statement M
-put-u16-spec =
+pub put_u16_spec : {M : Type 1} → statement M
+put_u16_spec =
     tie.close
     (tie.spec
     cast-room

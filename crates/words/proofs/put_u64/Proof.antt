@@ -11,22 +11,22 @@ use borrow.Author.Rules.{rules}
 use Rattle.words.proofs.put_u64.Statement.{statement}
 use Rattle.words.proofs.put_u64.Tie as tie
 
-cast-put-u32 : tie.Need-overflow-cast-put-u32
+cast-put-u32 : tie.Need-overflow_cast-value
 cast-put-u32 c = search rules
 
-put-u32-requires : tie.Need-put-u32-requires
+put-u32-requires : tie.Need-put_u32-requires
 put-u32-requires c κs = search rules
 
-add-put-u32 : tie.Need-overflow-add-put-u32
+add-put-u32 : tie.Need-overflow_add-at
 add-put-u32 c = search rules
 
-cast-put-u32-2 : tie.Need-overflow-cast-put-u32-2
+cast-put-u32-2 : tie.Need-overflow_cast-value-2
 cast-put-u32-2 c = search rules
 
-put-u32-requires-2 : tie.Need-put-u32-requires-2
+put-u32-requires-2 : tie.Need-put_u32-requires-2
 put-u32-requires-2 c κs = search rules
 
-same_length : tie.Need-same-length
+same_length : tie.Need-shape_of-room
 same_length c = search rules
 
 returns : tie.Need-returns
@@ -34,13 +34,13 @@ returns c =
     let second = c.before.before in
     let first = second.before.before.before.before in
     let a = first.before.before.before.args in
-    second.put-u322.ensures
-    ∙ ap (λ (l : List ℕ). sets l (a.at + 4) (bytes_of 4 (a.value % 4294967296))) first.put-u32.ensures
+    second.put_u32-2.ensures
+    ∙ ap (λ (l : List ℕ). sets l (a.at + 4) (bytes_of 4 (a.value % 4294967296))) first.put_u32.ensures
     ∙ put-join a.room.now a.at 4 4 (a.value / 4294967296) (a.value % 4294967296) (mod-lt a.value (lit< tt))
     ∙ ap (λ (v : ℕ). sets a.room.now a.at (bytes_of 8 v)) (div-add-mod a.value 4294967296)
 
-pub put-u64-spec : {M : Type 1} → statement M
-put-u64-spec =
+pub put_u64_spec : {M : Type 1} → statement M
+put_u64_spec =
     tie.close
     (tie.spec
     cast-put-u32

@@ -45,13 +45,13 @@ returns c =
     let s = c.before.before.before.before.before.before.before.before.before.before.before.before.before.before.before in
     let t = s.requires.0 in
     let x = c.before.before.before.before.before.before.before.before.row in
-    let y = c.before.before.before.before.row2 in
-    let z = c.row3 in
+    let y = c.before.before.before.before.row-2 in
+    let z = c.row-3 in
     λ l. record {
       row0 = row_is s t.t1.x t.t2.x t.t3.x x.ensures l;
       row1 = row_is s t.t1.y t.t2.y t.t3.y y.ensures l;
       row2 = row_is s t.t1.z t.t2.z t.t3.z z.ensures l;
     }
 
-pub product-spec : {M : Type 1} → statement M
-product-spec = tie.close (tie.spec row-requires row-requires-2 row-requires-3 returns)
+pub product_spec : {M : Type 1} → statement M
+product_spec = tie.close (tie.spec row-requires row-requires-2 row-requires-3 returns)

@@ -32,7 +32,7 @@ module _ (s : tie.Start) {x y z : ℤ} (i : Within 1000000000 x) (j : Within 100
       r ≡ entry_by (passed s.args.a) (passed s.args.b) (passed s.args.c) (passed x) (passed y) (passed z) →
       passed r ≡ entry_by s.args.a s.args.b s.args.c x y z
   entry-is ok e =
-      let h = s.pre in
+      let h = s.requires in
       let a = back (arg {w = w64} h.0 tt) in
       let b = back (arg {w = w64} h.1.0 tt) in
       let c = back (arg {w = w64} h.1.1.0 tt) in
@@ -61,13 +61,13 @@ returns c =
     let s = c.before.before.before.before.before.before.before.before.before.before.before.before.before.before.before in
     let t = s.requires.1.1.1 in
     let x = c.before.before.before.before.before.before.before.before.entry in
-    let y = c.before.before.before.before.entry2 in
-    let z = c.entry3 in
+    let y = c.before.before.before.before.entry-2 in
+    let z = c.entry-3 in
     λ l. record {
-      x = entry-is s t.t1.x t.t2.x t.t3.x x.type-inv x.ensures l;
-      y = entry-is s t.t1.y t.t2.y t.t3.y y.type-inv y.ensures l;
-      z = entry-is s t.t1.z t.t2.z t.t3.z z.type-inv z.ensures l;
+      x = entry-is s t.t1.x t.t2.x t.t3.x x.type_inv x.ensures l;
+      y = entry-is s t.t1.y t.t2.y t.t3.y y.type_inv y.ensures l;
+      z = entry-is s t.t1.z t.t2.z t.t3.z z.type_inv z.ensures l;
     }
 
-pub row-spec : {M : Type 1} → statement M
-row-spec = tie.close (tie.spec entry-requires entry-requires-2 entry-requires-3 returns)
+pub row_spec : {M : Type 1} → statement M
+row_spec = tie.close (tie.spec entry-requires entry-requires-2 entry-requires-3 returns)

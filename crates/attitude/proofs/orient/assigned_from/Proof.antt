@@ -17,10 +17,10 @@ use Rattle.attitude.proofs.orient.assigned_from.Reads as reads
 use Rattle.attitude.proofs.orient.assigned_from.Lts as lts
 use Rattle.attitude.proofs.orient.number_of.Reads as number-of-reads
 
-abbrev invariant-loop : tie.invariant-loop
+abbrev invariant-loop : tie.invariant-loop-i
 invariant-loop from directions stars words i₀ i = (from ≤ i) × (i ≤ directions) × ((j : ℕ) → j < i → leb from j && ltb (at words j) stars ≡ false)
 
-abbrev decreases-loop : tie.decreases-loop
+abbrev decreases-loop : tie.decreases-loop-i
 decreases-loop from directions stars words i₀ i = directions - i
 
 -- a direction before the place is not asked for
@@ -38,49 +38,49 @@ untaken words stars from j h = by (leb from j) (le-ltb (at words j) stars h)
 taken : (words : List ℕ) (stars from j : ℕ) → from ≤ j → at words j < stars → leb from j && ltb (at words j) stars ≡ true
 taken words stars from j h k = rw (le-leb from j h, lt-ltb (at words j) stars k)
 
-loop-holds : tie.Need-loop-init invariant-loop decreases-loop
+loop-holds : tie.Need-loop-i-init invariant-loop decreases-loop
 loop-holds c = (omega arith, search rules, λ j l. early c.args.t1 c.args.stars c.args.from j l)
 
-mul-number-of : tie.Need-overflow-mul-number-of invariant-loop decreases-loop
+mul-number-of : tie.Need-offset_bounds-words-i invariant-loop decreases-loop
 mul-number-of c = search rules
 
-array-read-number-of : tie.Need-array-read-number-of invariant-loop decreases-loop
+array-read-number-of : tie.Need-bounds-words-i invariant-loop decreases-loop
 array-read-number-of c = search rules
 
-number-of-requires : tie.Need-number-of-requires invariant-loop decreases-loop
+number-of-requires : tie.Need-number_of-requires invariant-loop decreases-loop
 number-of-requires c κs = search rules
 
-returns : tie.Need-returns invariant-loop decreases-loop
+returns : tie.Need-returns-then-number_of-stars invariant-loop decreases-loop
 unfolding assigned_from
 returns c =
-    let l = c.before.before.before.loop in
+    let l = c.before.before.before.loop-i in
     let a = c.before.before.before.before.args in
     let h : at a.t1 l.i < a.stars = omega (arith, c.before.number_of.ensures) in
     (first_of _ _ (record { most = l.invariant.1; none = l.invariant.2; taken = λ _. taken a.t1 a.stars a.from l.i l.invariant.0 h }), l.invariant.1)
 
-add-i : tie.Need-overflow-add-i invariant-loop decreases-loop
+add-i : tie.Need-overflow_add-i invariant-loop decreases-loop
 add-i c = search rules
 
-loop-less : tie.Need-loop-smaller invariant-loop decreases-loop
+loop-less : tie.Need-loop-i-smaller invariant-loop decreases-loop
 loop-less c = search rules
 
-loop-again : tie.Need-loop-preserved invariant-loop decreases-loop
+loop-again : tie.Need-loop-i-preserved invariant-loop decreases-loop
 loop-again c =
-    let l = c.before.before.before.loop in
+    let l = c.before.before.before.loop-i in
     let a = c.before.before.before.before.args in
     let h : a.stars ≤ at a.t1 l.i = omega (arith, c.before.number_of.ensures) in
     (omega arith, omega arith, below_more _ _ l.invariant.2 (untaken a.t1 a.stars a.from l.i h))
 
-returns-2 : tie.Need-returns-2 invariant-loop decreases-loop
+returns-2 : tie.Need-returns invariant-loop decreases-loop
 unfolding assigned_from
 returns-2 c =
-    let l = c.before.loop in
+    let l = c.before.loop-i in
     let a = c.before.before.args in
     let e : l.i ≡ a.directions = omega arith in
     (first_of _ _ (record { most = omega arith; none = rw (← e) l.invariant.2; taken = λ h. absurd (omega arith) }), omega arith)
 
-pub assigned-from-spec : {M : Type 1} → statement M
-assigned-from-spec =
+pub assigned_from_spec : {M : Type 1} → statement M
+assigned_from_spec =
     tie.close
     (tie.spec
     invariant-loop

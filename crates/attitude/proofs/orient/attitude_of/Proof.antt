@@ -45,41 +45,41 @@ two-star s = (from-taken (words s) (total s) (count s) (one s + 1) (two_in s)).1
 
 -- ---- the code's two
 
-one-is : (c : tie.After-assigned-from) → c.assigned-from.result ≡ one c.before
-one-is c = c.assigned-from.ensures.0
+one-is : (c : tie.After-assigned_from-i) → c.assigned_from-i.result ≡ one c.before
+one-is c = c.assigned_from-i.ensures.0
 
-two_is : (c : tie.After-assigned-from2) → c.assigned-from2.result ≡ two c.before.before
-two_is c = c.assigned-from2.ensures.0 ∙ ap (λ (i : ℕ). assigned_from (words c.before.before) (total c.before.before) (count c.before.before)
+two_is : (c : tie.After-assigned_from-j) → c.assigned_from-j.result ≡ two c.before.before
+two_is c = c.assigned_from-j.ensures.0 ∙ ap (λ (i : ℕ). assigned_from (words c.before.before) (total c.before.before) (count c.before.before)
     (i + 1)) (one-is c.before)
 
-one-star-is : (c : tie.After-number-of) → c.number_of.result ≡ at (words c.before.before.before.before.before)
+one-star-is : (c : tie.After-number_of) → c.number_of.result ≡ at (words c.before.before.before.before.before)
     (one c.before.before.before.before.before)
 one-star-is c = c.number_of.ensures ∙ ap (at (words c.before.before.before.before.before)) (one-is c.before.before.before.before)
 
-two-star-is : (c : tie.After-number-of2) → c.number-of2.result ≡ at (words c.before.before.before.before.before.before.before)
+two-star-is : (c : tie.After-number_of-2) → c.number_of-2.result ≡ at (words c.before.before.before.before.before.before.before)
     (two c.before.before.before.before.before.before.before)
-two-star-is c = c.number-of2.ensures ∙ ap (at (words c.before.before.before.before.before.before.before))
+two-star-is c = c.number_of-2.ensures ∙ ap (at (words c.before.before.before.before.before.before.before))
     (two_is c.before.before.before.before.before)
 
-assigned-from-requires : tie.Need-assigned-from-requires
+assigned-from-requires : tie.Need-assigned_from-i-requires
 assigned-from-requires c κs = search rules
 
-add-assigned-from : tie.Need-overflow-add-assigned-from
+add-assigned-from : tie.Need-overflow_add-i
 add-assigned-from c = search rules
 
-assigned-from-requires-2 : tie.Need-assigned-from-requires-2
+assigned-from-requires-2 : tie.Need-assigned_from-j-requires
 assigned-from-requires-2 c κs = omega (arith, one-is c, one_in c.before, c.before.requires.0)
 
-triple-at-requires : tie.Need-triple-at-requires
+triple-at-requires : tie.Need-triple_at-requires
 triple-at-requires c κs = omega (arith, one-is c.before, one_in c.before.before)
 
-triple-at-requires-2 : tie.Need-triple-at-requires-2
+triple-at-requires-2 : tie.Need-triple_at-requires-2
 triple-at-requires-2 c κs = omega (arith, two_is c.before, two_in c.before.before.before)
 
-mul-number-of : tie.Need-overflow-mul-number-of
+mul-number-of : tie.Need-offset_bounds-words-i
 mul-number-of c = search rules
 
-array-read-number-of : tie.Need-array-read-number-of
+array-read-number-of : tie.Need-bounds-words-i
 array-read-number-of c = omega (
   arith,
   one-is c.before.before.before,
@@ -87,24 +87,24 @@ array-read-number-of c = omega (
   c.before.before.before.before.requires.0,
 )
 
-number-of-requires : tie.Need-number-of-requires
+number-of-requires : tie.Need-number_of-requires
 number-of-requires c κs = search rules
 
-triple-at-requires-3 : tie.Need-triple-at-requires-3
+triple-at-requires-3 : tie.Need-triple_at-requires-3
 triple-at-requires-3 c κs = omega (arith, one-star-is c, one-star c.before.before.before.before.before)
 
-mul-number-of-2 : tie.Need-overflow-mul-number-of-2
+mul-number-of-2 : tie.Need-offset_bounds-words-j
 mul-number-of-2 c = search rules
 
-array-read-number-of-2 : tie.Need-array-read-number-of-2
+array-read-number-of-2 : tie.Need-bounds-words-j
 array-read-number-of-2 c =
     let s = c.before.before.before.before.before.before in
     omega (arith, two_is c.before.before.before.before, two_in s, s.requires.0)
 
-number-of-requires-2 : tie.Need-number-of-requires-2
+number-of-requires-2 : tie.Need-number_of-requires-2
 number-of-requires-2 c κs = search rules
 
-triple-at-requires-4 : tie.Need-triple-at-requires-4
+triple-at-requires-4 : tie.Need-triple_at-requires-4
 triple-at-requires-4 c κs = omega (arith, two-star-is c, two-star c.before.before.before.before.before.before.before)
 
 triad-requires : tie.Need-triad-requires
@@ -121,14 +121,14 @@ returns c =
     let t1 = t2.before in
     let b = t1.before in
     let s = b.before.before in
-    let v1 = t1.triple-at.ensures ∙ ap (triple_at s.args.directions.now) (one-is b.before) in
-    let v2 = t2.triple-at2.ensures ∙ ap (triple_at s.args.directions.now) (two_is b) in
-    let w1 = t3.triple-at3.ensures ∙ ap (triple_at s.args.stars.now) (one-star-is n1) in
-    let w2 = t4.triple-at4.ensures ∙ ap (triple_at s.args.stars.now) (two-star-is n2) in
+    let v1 = t1.triple_at.ensures ∙ ap (triple_at s.args.directions.now) (one-is b.before) in
+    let v2 = t2.triple_at-2.ensures ∙ ap (triple_at s.args.directions.now) (two_is b) in
+    let w1 = t3.triple_at-3.ensures ∙ ap (triple_at s.args.stars.now) (one-star-is n1) in
+    let w2 = t4.triple_at-4.ensures ∙ ap (triple_at s.args.stars.now) (two-star-is n2) in
     c.triad.ensures.0 ∙ (λ i. attitude_of (v1 i) (v2 i) (w1 i) (w2 i))
 
-pub attitude-of-spec : {M : Type 1} → statement M
-attitude-of-spec =
+pub attitude_of_spec : {M : Type 1} → statement M
+attitude_of_spec =
     tie.close
     (tie.spec
     assigned-from-requires

@@ -21,15 +21,15 @@ second {a} {b} v w d e h = rw (← d, ← e, le-ltb 1000000000 a h)
 largest-requires : tie.Need-largest-requires
 largest-requires c κs = search rules
 
-largest-requires-2 : tie.Need-largest-requires-2
+largest-requires-2 : tie.Need-largest-requires-else-largest-gt-LARGEST
 largest-requires-2 c κs = search rules
 
-returns : tie.Need-returns
-returns c = let s = c.before.before in first s.args.v s.args.w c.before.largest.ensures c.if1.true
+returns : tie.Need-returns-then-largest-gt-LARGEST
+returns c = let s = c.before.before in first s.args.v s.args.w c.before.largest.ensures c.if-largest-gt-LARGEST.true
 
-returns-2 : tie.Need-returns-2
-returns-2 c = let s = c.before.before.before in second s.args.v s.args.w c.before.before.largest.ensures c.largest2.ensures
-    c.before.if1.false
+returns-2 : tie.Need-returns-else-largest-gt-LARGEST
+returns-2 c = let s = c.before.before.before in second s.args.v s.args.w c.before.before.largest.ensures c.largest-else-largest-gt-LARGEST.ensures
+    c.before.if-largest-gt-LARGEST.false
 
-pub out-of-range-spec : {M : Type 1} → statement M
-out-of-range-spec = tie.close (tie.spec largest-requires largest-requires-2 returns returns-2)
+pub out_of_range_spec : {M : Type 1} → statement M
+out_of_range_spec = tie.close (tie.spec largest-requires largest-requires-2 returns returns-2)

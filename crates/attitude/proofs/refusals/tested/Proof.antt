@@ -51,79 +51,79 @@ module _ (s : tie.Start) where
 
 -- ---- what each test has left
 
-camera-in : (c : tie.Else1) → camera-out c.before.before ≡ false
-camera-in c = sym c.before.out_of_range.ensures ∙ c.if1.false
+camera-in : (c : tie.Else-out_of_range) → camera-out c.before.before ≡ false
+camera-in c = sym c.before.out_of_range.ensures ∙ c.if-out_of_range.false
 
-sky-in : (c : tie.Else2) → sky-out c.before.before.before.before ≡ false
-sky-in c = sym c.before.out-of-range2.ensures ∙ c.if2.false
+sky-in : (c : tie.Else-out_of_range-2) → sky-out c.before.before.before.before ≡ false
+sky-in c = sym c.before.out_of_range-2.ensures ∙ c.if-out_of_range-2.false
 
-both-in : (c : tie.Else2) → let s = c.before.before.before.before in InRange s.args.v1 s.args.v2 s.args.w1 s.args.w2
+both-in : (c : tie.Else-out_of_range-2) → let s = c.before.before.before.before in InRange s.args.v1 s.args.v2 s.args.w1 s.args.w2
 both-in c =
     let s = c.before.before.before.before in
     let v = (pair-in-range s.args.v1 s.args.v2).0 (camera-in c.before.before) in
     let w = (pair-in-range s.args.w1 s.args.w2).0 (sky-in c) in
     record { v1 = v.0; v2 = v.1; w1 = w.0; w2 = w.1 }
 
-camera-apart : (c : tie.Else3) → camera-close c.before.before.before.before.before.before ≡ false
-camera-apart c = sym c.before.too-close.ensures ∙ c.if3.false
+camera-apart : (c : tie.Else-too_close) → camera-close c.before.before.before.before.before.before ≡ false
+camera-apart c = sym c.before.too_close.ensures ∙ c.if-too_close.false
 
-out-of-range-requires : tie.Need-out-of-range-requires
+out-of-range-requires : tie.Need-out_of_range-requires
 out-of-range-requires c κs = search rules
 
 plain-requires : tie.Need-plain-requires
 plain-requires c κs = search rules
 
-returns : tie.Need-returns
+returns : tie.Need-returns-then-out_of_range
 returns c =
     let o = c.before.before in
-    c.plain.ensures ∙ by-camera-out o.before (sym o.out_of_range.ensures ∙ c.before.if1.true)
+    c.plain.ensures ∙ by-camera-out o.before (sym o.out_of_range.ensures ∙ c.before.if-out_of_range.true)
 
-out-of-range-requires-2 : tie.Need-out-of-range-requires-2
+out-of-range-requires-2 : tie.Need-out_of_range-requires-2
 out-of-range-requires-2 c κs = search rules
 
-plain-requires-2 : tie.Need-plain-requires-2
+plain-requires-2 : tie.Need-plain-requires-then-out_of_range-2
 plain-requires-2 c κs = search rules
 
-returns-2 : tie.Need-returns-2
+returns-2 : tie.Need-returns-then-out_of_range-2
 returns-2 c =
     let o = c.before.before in
-    c.plain2.ensures ∙ by-sky-out o.before.before.before (camera-in o.before) (sym o.out-of-range2.ensures ∙ c.before.if2.true)
+    c.plain-then-out_of_range-2.ensures ∙ by-sky-out o.before.before.before (camera-in o.before) (sym o.out_of_range-2.ensures ∙ c.before.if-out_of_range-2.true)
 
-too-close-requires : tie.Need-too-close-requires
+too-close-requires : tie.Need-too_close-requires
 too-close-requires c κs = let h = both-in c in search rules
 
-plain-requires-3 : tie.Need-plain-requires-3
+plain-requires-3 : tie.Need-plain-requires-then-too_close
 plain-requires-3 c κs = search rules
 
-returns-3 : tie.Need-returns-3
+returns-3 : tie.Need-returns-then-too_close
 returns-3 c =
     let o = c.before.before in
     let e = o.before in
-    c.plain3.ensures ∙ by-camera-close e.before.before.before.before (camera-in e.before.before) (sky-in e) (sym o.too-close.ensures
-    ∙ c.before.if3.true)
+    c.plain-then-too_close.ensures ∙ by-camera-close e.before.before.before.before (camera-in e.before.before) (sky-in e) (sym o.too_close.ensures
+    ∙ c.before.if-too_close.true)
 
-too-close-requires-2 : tie.Need-too-close-requires-2
+too-close-requires-2 : tie.Need-too_close-requires-2
 too-close-requires-2 c κs = let h = both-in c.before.before in search rules
 
-plain-requires-4 : tie.Need-plain-requires-4
+plain-requires-4 : tie.Need-plain-requires-then-too_close-2
 plain-requires-4 c κs = search rules
 
-returns-4 : tie.Need-returns-4
+returns-4 : tie.Need-returns-then-too_close-2
 returns-4 c =
     let o = c.before.before in
     let e = o.before.before.before in
-    c.plain4.ensures ∙ by-sky-close e.before.before.before.before (camera-in e.before.before) (sky-in e) (camera-apart o.before)
-    (sym o.too-close2.ensures ∙ c.before.if4.true)
+    c.plain-then-too_close-2.ensures ∙ by-sky-close e.before.before.before.before (camera-in e.before.before) (sky-in e) (camera-apart o.before)
+    (sym o.too_close-2.ensures ∙ c.before.if-too_close-2.true)
 
-returns-5 : tie.Need-returns-5
+returns-5 : tie.Need-returns
 returns-5 c =
     let o = c.before in
     let e = o.before.before.before in
-    by-none e.before.before.before.before (camera-in e.before.before) (sky-in e) (camera-apart o.before) (sym o.too-close2.ensures
-    ∙ c.if4.false)
+    by-none e.before.before.before.before (camera-in e.before.before) (sky-in e) (camera-apart o.before) (sym o.too_close-2.ensures
+    ∙ c.if-too_close-2.false)
 
-pub tested-spec : {M : Type 1} → statement M
-tested-spec =
+pub tested_spec : {M : Type 1} → statement M
+tested_spec =
     tie.close
     (tie.spec
     out-of-range-requires

@@ -18,5 +18,5 @@ returns : tie.Need-returns
 returns c =
     ap (λ (m : ℕ). ltb m (2 ^ 30)) (c.largest.ensures ∙ ap (λ (v : Vec3). largest_of v) c.before.cross.ensures.0)
 
-pub too-close-spec : {M : Type 1} → statement M
-too-close-spec = tie.close (tie.spec cross-requires largest-requires returns)
+pub too_close_spec : {M : Type 1} → statement M
+too_close_spec = tie.close (tie.spec cross-requires largest-requires returns)

@@ -24,8 +24,8 @@ returns : tie.Need-returns
 returns c =
     let told = c.before.before.before.before.before.before.before in
     let v = told.before.args.v in
-    let g = told.struct_told.given in
+    let g = told.struct_told-1.given in
     cc (back (held {w = w64} v.x g.0.1), back (held {w = w64} v.y g.1.0.1), back (held {w = w64} v.z g.1.1.0.1))
 
-pub largest-spec : {M : Type 1} → statement M
-largest-spec = tie.close (tie.spec abs-requires abs-requires-2 abs-requires-3 larger-requires larger-requires-2 returns)
+pub largest_spec : {M : Type 1} → statement M
+largest_spec = tie.close (tie.spec abs-requires abs-requires-2 abs-requires-3 larger-requires larger-requires-2 returns)

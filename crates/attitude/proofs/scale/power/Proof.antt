@@ -20,14 +20,14 @@ one_shl k h = shl_exact {a = 1} 1 k 64 (lit< tt) (omega arith) ∙ one (2 ^ k)
 small : (k : ℕ) → k < 63 → (1 * 2 ^ k) % 2 ^ 64 < 2 ^ 63
 small k h = rw (one_shl k h) (pow-lt h)
 
-shl-result : tie.Need-overflow-shl-result
+shl-result : tie.Need-overflow_shl-result
 shl-result c = search rules
 
-cast-result : tie.Need-overflow-cast-result
+cast-result : tie.Need-overflow_cast-result
 cast-result c = record { sfits = small c.args.k c.requires }
 
 returns : tie.Need-returns
 returns c = to_z_pos w64 _ (small c.args.k c.requires) ∙ ap pos (one_shl c.args.k c.requires)
 
-pub power-spec : {M : Type 1} → statement M
-power-spec = tie.close (tie.spec shl-result cast-result returns)
+pub power_spec : {M : Type 1} → statement M
+power_spec = tie.close (tie.spec shl-result cast-result returns)

@@ -37,5 +37,5 @@ returns : tie.Need-returns
 unfolding reduced_of
 returns c = cc (back (divisor c.before))
 
-pub reduced-spec : {M : Type 1} → statement M
-reduced-spec = tie.close (tie.spec largest-requires shift-requires power-requires over-requires returns)
+pub reduced_spec : {M : Type 1} → statement M
+reduced_spec = tie.close (tie.spec largest-requires shift-requires power-requires over-requires returns)

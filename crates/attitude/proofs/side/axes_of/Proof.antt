@@ -20,8 +20,8 @@ C-within s = cross-within s.requires.0 s.requires.1.0
 reduced-is : (c : tie.After-reduced) → c.reduced.result ≡ reduced_of (C c.before.before)
 reduced-is c = c.reduced.ensures ∙ ap reduced_of c.before.cross.ensures.0
 
-unit-is : (c : tie.After-unit) → c.unit.result ≡ unit_of (reduced_of (C c.before.before.before))
-unit-is c = c.unit.ensures ∙ ap unit_of (reduced-is c.before)
+unit-is : (c : tie.After-unit-t2) → c.unit-t2.result ≡ unit_of (reduced_of (C c.before.before.before))
+unit-is c = c.unit-t2.ensures ∙ ap unit_of (reduced-is c.before)
 
 cross-requires : tie.Need-cross-requires
 cross-requires c κs = search rules
@@ -29,7 +29,7 @@ cross-requires c κs = search rules
 reduced-requires : tie.Need-reduced-requires
 reduced-requires c κs = search rules
 
-unit-requires : tie.Need-unit-requires
+unit-requires : tie.Need-unit-t2-requires
 unit-requires c κs =
     let s = c.before.before in
     rw (reduced-is c) (reduced-within _ (C-within s), reduced-large _ (C-within s) s.requires.1.1)
@@ -37,10 +37,10 @@ unit-requires c κs =
 cross-requires-2 : tie.Need-cross-requires-2
 cross-requires-2 c κs =
     let v = c.before.before.before.requires.0 in
-    let t2 : Within3 1000000000 c.unit.result = rw (unit-is c) (unit-within _) in
+    let t2 : Within3 1000000000 c.unit-t2.result = rw (unit-is c) (unit-within _) in
     search rules
 
-over-requires : tie.Need-over-requires
+over-requires : tie.Need-over-t3-requires
 over-requires c κs = search rules
 
 returns : tie.Need-returns
@@ -48,8 +48,8 @@ unfolding axes_of
 returns c =
     let v = c.before.before.before.before.before.args.v in
     let t2 = unit-is c.before.before in
-    let t3 = c.over.ensures ∙ ap (λ (x : Vec3). over_of x (pos 1000000000)) (c.before.cross2.ensures.0 ∙ ap (cross_of v) t2) in
+    let t3 = c.over-t3.ensures ∙ ap (λ (x : Vec3). over_of x (pos 1000000000)) (c.before.cross-2.ensures.0 ∙ ap (cross_of v) t2) in
     λ i. record { t1 = v; t2 = t2 i; t3 = t3 i }
 
-pub axes-of-spec : {M : Type 1} → statement M
-axes-of-spec = tie.close (tie.spec cross-requires reduced-requires unit-requires cross-requires-2 over-requires returns)
+pub axes_of_spec : {M : Type 1} → statement M
+axes_of_spec = tie.close (tie.spec cross-requires reduced-requires unit-requires cross-requires-2 over-requires returns)

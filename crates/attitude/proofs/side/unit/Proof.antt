@@ -23,10 +23,10 @@ squares-requires c κs = search rules
 root-requires : tie.Need-root-requires
 root-requires c κs = search rules
 
-cast-unit-by : tie.Need-overflow-cast-unit-by
+cast-unit-by : tie.Need-overflow_cast-root
 cast-unit-by c = fits (divisor c)
 
-unit-by-requires : tie.Need-unit-by-requires
+unit-by-requires : tie.Need-unit_by-requires
 unit-by-requires c κs = let s = c.before.before in (s.requires.0, above (divisor c) (pos-positive (root-pos s.args.d s.requires.1)))
 
 returns : tie.Need-returns

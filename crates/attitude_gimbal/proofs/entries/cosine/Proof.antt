@@ -12,10 +12,10 @@ use Rattle.attitude_gimbal.proofs.entries.cosine.Statement.{statement}
 use Rattle.attitude_gimbal.proofs.entries.cosine.Tie as tie
 
 -- the float reads the entry back from its bits
-read_back : (c : tie.After-row-known) → to_z w64 (of_z w64 c.before.args.entry) ≡ c.before.args.entry
+read_back : (c : tie.After-row_known-1) → to_z w64 (of_z w64 c.before.args.entry) ≡ c.before.args.entry
 read_back c = back (arg {w = w64} c.before.requires tt)
 
-int-to-float-result : tie.Need-int-to-float-result
+int-to-float-result : tie.Need-int_to_float-result
 int-to-float-result c = subst (λ (z : ℤ). T (in_float binary64 z)) (sym (read_back c)) (entry-float c.before.args.entry c.before.requires)
 
 literal : of_bits binary64 0x41cd_cd65_0000_0000 ≡ of_int binary64 (pos 1000000000)
@@ -26,5 +26,5 @@ returns : tie.Need-returns
 unfolding cosine_of
 returns c = λ i. div binary64 (of_int binary64 (read_back c i)) (literal i)
 
-pub cosine-spec : {M : Type 1} → statement M
-cosine-spec = tie.close (tie.spec int-to-float-result returns)
+pub cosine_spec : {M : Type 1} → statement M
+cosine_spec = tie.close (tie.spec int-to-float-result returns)

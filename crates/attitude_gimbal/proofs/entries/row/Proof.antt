@@ -19,9 +19,9 @@ returns : tie.Need-returns
 returns c =
     let h = c.before.before.before.before.before.before.requires in
     let x = c.before.before.cosine.ensures ∙ ap cosine_of (back (arg {w = w64} h.x tt)) in
-    let y = c.before.cosine2.ensures ∙ ap cosine_of (back (arg {w = w64} h.y tt)) in
-    let z = c.cosine3.ensures ∙ ap cosine_of (back (arg {w = w64} h.z tt)) in
+    let y = c.before.cosine-2.ensures ∙ ap cosine_of (back (arg {w = w64} h.y tt)) in
+    let z = c.cosine-3.ensures ∙ ap cosine_of (back (arg {w = w64} h.z tt)) in
     λ i. record { x = x i; y = y i; z = z i }
 
-pub row-spec : {M : Type 1} → statement M
-row-spec = tie.close (tie.spec cosine-requires cosine-requires-2 cosine-requires-3 returns)
+pub row_spec : {M : Type 1} → statement M
+row_spec = tie.close (tie.spec cosine-requires cosine-requires-2 cosine-requires-3 returns)

@@ -13,7 +13,7 @@ row-requires-3 : tie.Need-row-requires-3
 row-requires-3 c κs = search rules
 
 returns : tie.Need-returns
-returns c = λ i. record { row0 = c.before.before.row.ensures i; row1 = c.before.row2.ensures i; row2 = c.row3.ensures i }
+returns c = λ i. record { row0 = c.before.before.row.ensures i; row1 = c.before.row-2.ensures i; row2 = c.row-3.ensures i }
 
-pub rows-spec : {M : Type 1} → statement M
-rows-spec = tie.close (tie.spec row-requires row-requires-2 row-requires-3 returns)
+pub rows_spec : {M : Type 1} → statement M
+rows_spec = tie.close (tie.spec row-requires row-requires-2 row-requires-3 returns)

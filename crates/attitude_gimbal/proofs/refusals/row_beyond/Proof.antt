@@ -11,5 +11,5 @@ largest-requires c κs = search rules
 returns : tie.Need-returns
 returns c = ap (ltb 8000000000) c.largest.ensures
 
-pub row-beyond-spec : {M : Type 1} → statement M
-row-beyond-spec = tie.close (tie.spec largest-requires returns)
+pub row_beyond_spec : {M : Type 1} → statement M
+row_beyond_spec = tie.close (tie.spec largest-requires returns)

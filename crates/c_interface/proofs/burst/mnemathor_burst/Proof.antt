@@ -9,25 +9,25 @@ use borrow.Author.Rules.{rules}
 use Rattle.c_interface.proofs.burst.mnemathor_burst.Statement.{statement}
 use Rattle.c_interface.proofs.burst.mnemathor_burst.Tie as tie
 
-stated-requires : tie.Need-stated-requires
+stated-requires : tie.Need-stated-lens-requires
 stated-requires c κs = search rules
 
-track-requires : tie.Need-track-requires
+track-requires : tie.Need-track-answer-requires
 track-requires c κs = search rules
 
-of-counted-requires : tie.Need-of-counted-requires
+of-counted-requires : tie.Need-of_counted-requires
 of-counted-requires c κs = search rules
 
-hand-over-requires : tie.Need-hand-over-requires
+hand-over-requires : tie.Need-hand_over-requires
 hand-over-requires c κs = search rules
 
-same_length : tie.Need-same-length
+same_length : tie.Need-shape_of-room
 same_length c = search rules
 
-same-length-2 : tie.Need-same-length-2
+same-length-2 : tie.Need-shape_of-records
 same-length-2 c = search rules
 
-same-length-3 : tie.Need-same-length-3
+same-length-3 : tie.Need-shape_of-out
 same-length-3 c = search rules
 
 returns : tie.Need-returns
@@ -37,18 +37,18 @@ returns c =
     let l = t.before.before.before in
     let s = l.before.before.before.before.before in
     let a = s.args in
-    let g = settled a.width a.height a.threshold a.needed a.tolerance s.ranges.cx s.ranges.cy l.stated.ensures in
-    let e = t.track.ensures in (
+    let g = settled a.width a.height a.threshold a.needed a.tolerance s.ranges.cx s.ranges.cy l.stated-lens.ensures in
+    let e = t.track-answer.ensures in (
       e.1.1.1 ∙ ap (λ (x : Settings). room_after (call a.samples.now a.catalogue.now x a.room.now a.records.now)) g,
       (
         e.1.1.0 ∙ ap (λ (x : Settings). records_after (call a.samples.now a.catalogue.now x a.room.now a.records.now)) g,
-        handed counted_numbers _ c.before.hand-over.ensures o.of-counted.ensures
+        handed counted_numbers _ c.before.hand_over.ensures o.of_counted.ensures
             (e.0 ∙ ap (λ (x : Settings). burst_of (call a.samples.now a.catalogue.now x a.room.now a.records.now)) g),
       ),
     )
 
-pub mnemathor-burst-spec : {M : Type 1} → statement M
-mnemathor-burst-spec =
+pub mnemathor_burst_spec : {M : Type 1} → statement M
+mnemathor_burst_spec =
     tie.close
     (tie.spec
     stated-requires

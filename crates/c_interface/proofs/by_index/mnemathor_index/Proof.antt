@@ -10,19 +10,19 @@ use borrow.Author.Rules.{rules}
 use Rattle.c_interface.proofs.by_index.mnemathor_index.Statement.{statement}
 use Rattle.c_interface.proofs.by_index.mnemathor_index.Tie as tie
 
-build-requires : tie.Need-build-requires
+build-requires : tie.Need-build-built-requires
 build-requires c κs = search rules
 
-of-counted-requires : tie.Need-of-counted-requires
+of-counted-requires : tie.Need-of_counted-requires
 of-counted-requires c κs = search rules
 
-hand-over-requires : tie.Need-hand-over-requires
+hand-over-requires : tie.Need-hand_over-requires
 hand-over-requires c κs = search rules
 
-same_length : tie.Need-same-length
+same_length : tie.Need-shape_of-room
 same_length c = search rules
 
-same-length-2 : tie.Need-same-length-2
+same-length-2 : tie.Need-shape_of-out
 same-length-2 c = search rules
 
 returns : tie.Need-returns
@@ -31,13 +31,13 @@ returns c =
     let s = b.before.before.before.before in
     let a = s.args in
     let f = back (param s.ranges.floor) in (
-      b.build.ensures.1.0 ∙ ap (λ (g : ℤ). room_after a.catalogue.now g a.room.now) f,
-      handed counted_numbers _ c.before.hand-over.ensures c.before.before.of-counted.ensures
-          (b.build.ensures.0 ∙ ap (λ (g : ℤ). built_of a.catalogue.now g (length a.room.now)) f),
+      b.build-built.ensures.1.0 ∙ ap (λ (g : ℤ). room_after a.catalogue.now g a.room.now) f,
+      handed counted_numbers _ c.before.hand_over.ensures c.before.before.of_counted.ensures
+          (b.build-built.ensures.0 ∙ ap (λ (g : ℤ). built_of a.catalogue.now g (length a.room.now)) f),
     )
 
-pub mnemathor-index-spec : {M : Type 1} → statement M
-mnemathor-index-spec =
+pub mnemathor_index_spec : {M : Type 1} → statement M
+mnemathor_index_spec =
     tie.close
     (tie.spec
     build-requires

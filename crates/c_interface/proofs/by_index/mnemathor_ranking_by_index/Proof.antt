@@ -9,19 +9,19 @@ use borrow.Author.Rules.{rules}
 use Rattle.c_interface.proofs.by_index.mnemathor_ranking_by_index.Statement.{statement}
 use Rattle.c_interface.proofs.by_index.mnemathor_ranking_by_index.Tie as tie
 
-rank-requires : tie.Need-rank-requires
+rank-requires : tie.Need-rank-outcome-requires
 rank-requires c κs = search rules
 
-of-ranking-requires : tie.Need-of-ranking-requires
+of-ranking-requires : tie.Need-of_ranking-requires
 of-ranking-requires c κs = search rules
 
-hand-over-requires : tie.Need-hand-over-requires
+hand-over-requires : tie.Need-hand_over-requires
 hand-over-requires c κs = search rules
 
-same_length : tie.Need-same-length
+same_length : tie.Need-shape_of-room
 same_length c = search rules
 
-same-length-2 : tie.Need-same-length-2
+same-length-2 : tie.Need-shape_of-out
 same-length-2 c = search rules
 
 returns : tie.Need-returns
@@ -30,13 +30,13 @@ returns c =
     let s = r.before.before.before.before.before in
     let a = s.args in
     let f = back (param s.ranges.floor) in (
-      r.rank.ensures.1.0 ∙ ap (λ (g : ℤ). room_after (call a.directions.now a.catalogue.now a.index.now g a.tolerance a.room.now)) f,
-      handed ranking_numbers _ c.before.hand-over.ensures c.before.before.of-ranking.ensures
-          (r.rank.ensures.0 ∙ ap (λ (g : ℤ). outcome_of (call a.directions.now a.catalogue.now a.index.now g a.tolerance a.room.now)) f),
+      r.rank-outcome.ensures.1.0 ∙ ap (λ (g : ℤ). room_after (call a.directions.now a.catalogue.now a.index.now g a.tolerance a.room.now)) f,
+      handed ranking_numbers _ c.before.hand_over.ensures c.before.before.of_ranking.ensures
+          (r.rank-outcome.ensures.0 ∙ ap (λ (g : ℤ). outcome_of (call a.directions.now a.catalogue.now a.index.now g a.tolerance a.room.now)) f),
     )
 
-pub mnemathor-ranking-by-index-spec : {M : Type 1} → statement M
-mnemathor-ranking-by-index-spec =
+pub mnemathor_ranking_by_index_spec : {M : Type 1} → statement M
+mnemathor_ranking_by_index_spec =
     tie.close
     (tie.spec
     rank-requires

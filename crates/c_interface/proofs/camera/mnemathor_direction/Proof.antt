@@ -8,19 +8,19 @@ use borrow.Author.Rules.{rules}
 use Rattle.c_interface.proofs.camera.mnemathor_direction.Statement.{statement}
 use Rattle.c_interface.proofs.camera.mnemathor_direction.Tie as tie
 
-stated-requires : tie.Need-stated-requires
+stated-requires : tie.Need-stated-lens-requires
 stated-requires c κs = search rules
 
-direction-of-requires : tie.Need-direction-of-requires
+direction-of-requires : tie.Need-direction_of-requires
 direction-of-requires c κs = search rules
 
-of-direction-requires : tie.Need-of-direction-requires
+of-direction-requires : tie.Need-of_direction-requires
 of-direction-requires c κs = search rules
 
-hand-over-requires : tie.Need-hand-over-requires
+hand-over-requires : tie.Need-hand_over-requires
 hand-over-requires c κs = search rules
 
-same_length : tie.Need-same-length
+same_length : tie.Need-shape_of-out
 same_length c = search rules
 
 returns : tie.Need-returns
@@ -28,11 +28,11 @@ returns c =
     let d = c.before.before.before in
     let l = d.before.before in
     let s = l.before.ranges in
-    handed direction_numbers _ c.before.hand-over.ensures c.before.before.of-direction.ensures
-    (d.direction-of.ensures.0 ∙ (λ i. direction_of (back (param s.cx) i) (back (param s.cy) i) (l.stated.ensures i) (back (param s.x) i)
+    handed direction_numbers _ c.before.hand_over.ensures c.before.before.of_direction.ensures
+    (d.direction_of.ensures.0 ∙ (λ i. direction_of (back (param s.cx) i) (back (param s.cy) i) (l.stated-lens.ensures i) (back (param s.x) i)
     (back (param s.y) i)))
 
-pub mnemathor-direction-spec : {M : Type 1} → statement M
-mnemathor-direction-spec =
+pub mnemathor_direction_spec : {M : Type 1} → statement M
+mnemathor_direction_spec =
     tie.close
     (tie.spec stated-requires direction-of-requires of-direction-requires hand-over-requires same_length returns)

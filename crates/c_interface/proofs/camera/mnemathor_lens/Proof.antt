@@ -8,30 +8,30 @@ use borrow.Author.Rules.{rules}
 use Rattle.c_interface.proofs.camera.mnemathor_lens.Statement.{statement}
 use Rattle.c_interface.proofs.camera.mnemathor_lens.Tie as tie
 
-stated-requires : tie.Need-stated-requires
+stated-requires : tie.Need-stated-lens-requires
 stated-requires c κs = search rules
 
-focal-of-requires : tie.Need-focal-of-requires
+focal-of-requires : tie.Need-focal_of-requires
 focal-of-requires c κs = search rules
 
-of-focal-requires : tie.Need-of-focal-requires
+of-focal-requires : tie.Need-of_focal-requires
 of-focal-requires c κs = search rules
 
-hand-over-requires : tie.Need-hand-over-requires
+hand-over-requires : tie.Need-hand_over-requires
 hand-over-requires c κs = search rules
 
-same_length : tie.Need-same-length
+same_length : tie.Need-shape_of-out
 same_length c = search rules
 
 returns : tie.Need-returns
 returns c =
     let d = c.before.before.before in
     let l = d.before.before in
-    handed focal_numbers _ c.before.hand-over.ensures c.before.before.of-focal.ensures
-    (d.focal-of.ensures.0 ∙ ap (λ (m : Lens). focal_of m) l.stated.ensures)
+    handed focal_numbers _ c.before.hand_over.ensures c.before.before.of_focal.ensures
+    (d.focal_of.ensures.0 ∙ ap (λ (m : Lens). focal_of m) l.stated-lens.ensures)
 
-pub mnemathor-lens-spec : {M : Type 1} → statement M
-mnemathor-lens-spec =
+pub mnemathor_lens_spec : {M : Type 1} → statement M
+mnemathor_lens_spec =
     tie.close
     (tie.spec
     stated-requires

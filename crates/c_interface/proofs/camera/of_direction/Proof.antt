@@ -5,26 +5,26 @@ use borrow.Author.Rules.{rules}
 use Rattle.c_interface.proofs.camera.of_direction.Statement.{statement}
 use Rattle.c_interface.proofs.camera.of_direction.Tie as tie
 
-enum-known-direction : tie.Need-enum-known-direction
+enum-known-direction : tie.Need-enum_known-direction
 enum-known-direction c = search rules
 
-of-refusal-requires : tie.Need-of-refusal-requires
+of-refusal-requires : tie.Need-of_refusal-requires
 of-refusal-requires c κs = search rules
 
-enum-known-direction-2 : tie.Need-enum-known-direction-2
+enum-known-direction-2 : tie.Need-enum_known-direction-in-Found-1
 enum-known-direction-2 c = search rules
 
-of-vector-requires : tie.Need-of-vector-requires
+of-vector-requires : tie.Need-of_vector-requires
 of-vector-requires c κs = search rules
 
-returns : tie.Need-returns
-returns c = c.of-refusal.ensures ∙ ap direction_numbers (sym c.before.before.direction.given.1)
+returns : tie.Need-returns-in-Refused
+returns c = c.of_refusal.ensures ∙ ap direction_numbers (sym c.before.before.direction-1.given.1)
 
-returns-2 : tie.Need-returns-2
-returns-2 c = c.of-vector.ensures ∙ ap direction_numbers (sym c.before.before.direction2.given.1)
+returns-2 : tie.Need-returns-in-Found
+returns-2 c = c.of_vector.ensures ∙ ap direction_numbers (sym c.before.before.direction-in-Found-1.given.1)
 
-pub of-direction-spec : {M : Type 1} → statement M
-of-direction-spec =
+pub of_direction_spec : {M : Type 1} → statement M
+of_direction_spec =
     tie.close
     (tie.spec
     enum-known-direction

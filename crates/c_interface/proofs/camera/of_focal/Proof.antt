@@ -10,29 +10,29 @@ use borrow.Author.Rules.{rules}
 use Rattle.c_interface.proofs.camera.of_focal.Statement.{statement}
 use Rattle.c_interface.proofs.camera.of_focal.Tie as tie
 
-enum-known-focal : tie.Need-enum-known-focal
+enum-known-focal : tie.Need-enum_known-focal
 enum-known-focal c = search rules
 
-of-refusal-requires : tie.Need-of-refusal-requires
+of-refusal-requires : tie.Need-of_refusal-requires
 of-refusal-requires c κs = search rules
 
-enum-known-focal-2 : tie.Need-enum-known-focal-2
+enum-known-focal-2 : tie.Need-enum_known-focal-in-Whole-1
 enum-known-focal-2 c = search rules
 
-of-whole-requires : tie.Need-of-whole-requires
+of-whole-requires : tie.Need-of_whole-requires
 of-whole-requires c κs = search rules
 
-returns : tie.Need-returns
-returns c = c.of-refusal.ensures ∙ ap focal_numbers (sym c.before.before.focal.given.1)
+returns : tie.Need-returns-in-Refused
+returns c = c.of_refusal.ensures ∙ ap focal_numbers (sym c.before.before.focal-1.given.1)
 
-returns-2 : tie.Need-returns-2
+returns-2 : tie.Need-returns-in-Whole
 returns-2 c =
-    let g = c.before.before.focal2.given in
-    let f = back (held {w = w64} g.0.0 c.before.known-told2.given.0.1) in
-    c.of-whole.ensures ∙ ap (λ (z : ℤ). accepted_numbers (z ∷ [])) f ∙ ap focal_numbers (sym g.1)
+    let g = c.before.before.focal-in-Whole-1.given in
+    let f = back (held {w = w64} g.0.0 c.before.known_told-in-Whole-1.given.0.1) in
+    c.of_whole.ensures ∙ ap (λ (z : ℤ). accepted_numbers (z ∷ [])) f ∙ ap focal_numbers (sym g.1)
 
-pub of-focal-spec : {M : Type 1} → statement M
-of-focal-spec =
+pub of_focal_spec : {M : Type 1} → statement M
+of_focal_spec =
     tie.close
     (tie.spec
     enum-known-focal

@@ -5,28 +5,28 @@ use borrow.Author.Rules.{rules}
 use Rattle.c_interface.proofs.compare.mnemathor_compare.Statement.{statement}
 use Rattle.c_interface.proofs.compare.mnemathor_compare.Tie as tie
 
-compare-requires : tie.Need-compare-requires
+compare-requires : tie.Need-compare-compared-requires
 compare-requires c κs = search rules
 
-of-counted-requires : tie.Need-of-counted-requires
+of-counted-requires : tie.Need-of_counted-requires
 of-counted-requires c κs = search rules
 
-hand-over-requires : tie.Need-hand-over-requires
+hand-over-requires : tie.Need-hand_over-requires
 hand-over-requires c κs = search rules
 
-same_length : tie.Need-same-length
+same_length : tie.Need-shape_of-room
 same_length c = search rules
 
-same-length-2 : tie.Need-same-length-2
+same-length-2 : tie.Need-shape_of-out
 same-length-2 c = search rules
 
 returns : tie.Need-returns
 returns c =
-    let b : tie.After-compare = search rules in
-    (b.compare.ensures.1.0, handed counted_numbers _ c.before.hand-over.ensures c.before.before.of-counted.ensures b.compare.ensures.0)
+    let b : tie.After-compare-compared = search rules in
+    (b.compare-compared.ensures.1.0, handed counted_numbers _ c.before.hand_over.ensures c.before.before.of_counted.ensures b.compare-compared.ensures.0)
 
-pub mnemathor-compare-spec : {M : Type 1} → statement M
-mnemathor-compare-spec =
+pub mnemathor_compare_spec : {M : Type 1} → statement M
+mnemathor_compare_spec =
     tie.close
     (tie.spec
     compare-requires

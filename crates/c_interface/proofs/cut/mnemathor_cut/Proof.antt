@@ -9,35 +9,35 @@ use borrow.Author.Rules.{rules}
 use Rattle.c_interface.proofs.cut.mnemathor_cut.Statement.{statement}
 use Rattle.c_interface.proofs.cut.mnemathor_cut.Tie as tie
 
-cut-requires : tie.Need-cut-requires
+cut-requires : tie.Need-cut-shortened-requires
 cut-requires c κs = search rules
 
-of-counted-requires : tie.Need-of-counted-requires
+of-counted-requires : tie.Need-of_counted-requires
 of-counted-requires c κs = search rules
 
-hand-over-requires : tie.Need-hand-over-requires
+hand-over-requires : tie.Need-hand_over-requires
 hand-over-requires c κs = search rules
 
-same_length : tie.Need-same-length
+same_length : tie.Need-shape_of-bytes
 same_length c = search rules
 
-same-length-2 : tie.Need-same-length-2
+same-length-2 : tie.Need-shape_of-out
 same-length-2 c = search rules
 
 returns : tie.Need-returns
 returns c =
-    let w : tie.After-cut = search rules in
-    let o : tie.After-of-counted = search rules in
+    let w : tie.After-cut-shortened = search rules in
+    let o : tie.After-of_counted = search rules in
     let s = w.before.before.before in
     let x = s.args in
     let y = to_z-of_z w32 x.limit s.fits.limit in
     let z = to_z-of_z w64 x.closeness s.fits.closeness in (
-      w.cut.ensures.1.0 ∙ (λ i. buffer_after x.bytes.now (y i) (z i)),
-      handed counted_numbers _ c.before.hand-over.ensures o.of-counted.ensures (w.cut.ensures.0 ∙ (λ i. shortened_of x.bytes.now (y i) (z i))),
+      w.cut-shortened.ensures.1.0 ∙ (λ i. buffer_after x.bytes.now (y i) (z i)),
+      handed counted_numbers _ c.before.hand_over.ensures o.of_counted.ensures (w.cut-shortened.ensures.0 ∙ (λ i. shortened_of x.bytes.now (y i) (z i))),
     )
 
-pub mnemathor-cut-spec : {M : Type 1} → statement M
-mnemathor-cut-spec =
+pub mnemathor_cut_spec : {M : Type 1} → statement M
+mnemathor_cut_spec =
     tie.close
     (tie.spec
     cut-requires

@@ -5,22 +5,22 @@ use borrow.Author.Rules.{rules}
 use Rattle.c_interface.proofs.frame.mnemathor_verdict.Statement.{statement}
 use Rattle.c_interface.proofs.frame.mnemathor_verdict.Tie as tie
 
-judge-requires : tie.Need-judge-requires
+judge-requires : tie.Need-judge-judgement-requires
 judge-requires c κs = search rules
 
-of-verdict-requires : tie.Need-of-verdict-requires
+of-verdict-requires : tie.Need-of_verdict-requires
 of-verdict-requires c κs = search rules
 
-hand-over-requires : tie.Need-hand-over-requires
+hand-over-requires : tie.Need-hand_over-requires
 hand-over-requires c κs = search rules
 
-same_length : tie.Need-same-length
+same_length : tie.Need-shape_of-out
 same_length c = search rules
 
 returns : tie.Need-returns
 returns c =
-    handed verdict_numbers _ c.before.hand-over.ensures c.before.before.of-verdict.ensures c.before.before.before.before.judge.ensures.0
+    handed verdict_numbers _ c.before.hand_over.ensures c.before.before.of_verdict.ensures c.before.before.before.before.judge-judgement.ensures.0
 
-pub mnemathor-verdict-spec : {M : Type 1} → statement M
-mnemathor-verdict-spec =
+pub mnemathor_verdict_spec : {M : Type 1} → statement M
+mnemathor_verdict_spec =
     tie.close (tie.spec judge-requires of-verdict-requires hand-over-requires same_length returns)

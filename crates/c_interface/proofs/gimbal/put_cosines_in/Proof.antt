@@ -35,43 +35,43 @@ module _ (xs : List ℤ) (rows : List Float) where
   unfolding cosines_room
   room-is e f = f ∙ ap (λ (g : Gimbal). written (floats_of g) rows) e
 
-returns : tie.Need-returns
+returns : tie.Need-returns-then-rows-lt9
 returns c =
     let a = c.before.before.args in
-    let e = short a.matrix.now a.rows.now (lt-ltb _ _ c.if1.true) in
+    let e = short a.matrix.now a.rows.now (lt-ltb _ _ c.if-rows-lt9.true) in
     (room-is a.matrix.now a.rows.now e refl, e)
 
-returns-2 : tie.Need-returns-2
+returns-2 : tie.Need-returns-then-matrix-ne9
 returns-2 c =
     let a = c.before.before.before.args in
-    let e = wrong a.matrix.now a.rows.now (le-ltb _ _ c.before.if1.false) (ne_eqb _ _ c.if2.true) in
+    let e = wrong a.matrix.now a.rows.now (le-ltb _ _ c.before.if-rows-lt9.false) (ne_eqb _ _ c.if-matrix-ne9.true) in
     (room-is a.matrix.now a.rows.now e refl, e)
 
-matrix-in-requires : tie.Need-matrix-in-requires
+matrix-in-requires : tie.Need-matrix_in-requires
 matrix-in-requires c κs = search rules
 
-cosines-of-requires : tie.Need-cosines-of-requires
+cosines-of-requires : tie.Need-cosines_of-answer-requires
 cosines-of-requires c κs = search rules
 
-put-rows-requires : tie.Need-put-rows-requires
+put-rows-requires : tie.Need-put_rows-requires
 put-rows-requires c κs = search rules
 
-same_length : tie.Need-same-length
+same_length : tie.Need-shape_of-rows
 same_length c = search rules
 
-returns-3 : tie.Need-returns-3
+returns-3 : tie.Need-returns
 returns-3 c =
     let put = c.before.before in
     let answer = put.before.before in
     let matrix = answer.before in
     let left = matrix.before in
     let a = left.before.before.before.args in
-    let e = right a.matrix.now a.rows.now (le-ltb _ _ left.before.if1.false) (eq-eqb _ _ left.if2.false) (answer.cosines-of.ensures.0
-    ∙ ap gimbal_of matrix.matrix-in.ensures) in
-    (room-is a.matrix.now a.rows.now e put.put-rows.ensures, e)
+    let e = right a.matrix.now a.rows.now (le-ltb _ _ left.before.if-rows-lt9.false) (eq-eqb _ _ left.if-matrix-ne9.false) (answer.cosines_of-answer.ensures.0
+    ∙ ap gimbal_of matrix.matrix_in.ensures) in
+    (room-is a.matrix.now a.rows.now e put.put_rows.ensures, e)
 
-pub put-cosines-in-spec : {M : Type 1} → statement M
-put-cosines-in-spec =
+pub put_cosines_in_spec : {M : Type 1} → statement M
+put_cosines_in_spec =
     tie.close
     (tie.spec
     returns

@@ -54,48 +54,48 @@ module _ (rows target room : List Float) where
 plain-requires : tie.Need-plain-requires
 plain-requires c κs = search rules
 
-returns : tie.Need-returns
+returns : tie.Need-returns-then-target-ne3
 returns c =
     let a = c.before.before.before.before.before.args in
-    let e = no_target (length a.rows.now) (length a.target.now) (length a.turned.now) (ne_eqb _ _ c.before.if1.true) in
-    (refused a.rows.now a.target.now a.turned.now e, c.plain.ensures ∙ sym e)
+    let e = no_target (length a.rows.now) (length a.target.now) (length a.turned-answer.now) (ne_eqb _ _ c.before.if-target-ne3.true) in
+    (refused a.rows.now a.target.now a.turned-answer.now e, c.plain.ensures ∙ sym e)
 
-plain-requires-2 : tie.Need-plain-requires-2
+plain-requires-2 : tie.Need-plain-requires-then-turned-lt3
 plain-requires-2 c κs = search rules
 
-returns-2 : tie.Need-returns-2
+returns-2 : tie.Need-returns-then-turned-lt3
 returns-2 c =
     let a = c.before.before.before.before.before.before.args in
-    let e = no_room (length a.rows.now) (length a.target.now) (length a.turned.now) (eq-eqb _ _ c.before.before.if1.false)
-    (lt-ltb _ _ c.before.if2.true) in
-    (refused a.rows.now a.target.now a.turned.now e, c.plain2.ensures ∙ sym e)
+    let e = no_room (length a.rows.now) (length a.target.now) (length a.turned-answer.now) (eq-eqb _ _ c.before.before.if-target-ne3.false)
+    (lt-ltb _ _ c.before.if-turned-lt3.true) in
+    (refused a.rows.now a.target.now a.turned-answer.now e, c.plain-then-turned-lt3.ensures ∙ sym e)
 
-plain-requires-3 : tie.Need-plain-requires-3
+plain-requires-3 : tie.Need-plain-requires-then-rows-ne9
 plain-requires-3 c κs = search rules
 
-returns-3 : tie.Need-returns-3
+returns-3 : tie.Need-returns-then-rows-ne9
 returns-3 c =
     let a = c.before.before.before.before.before.before.before.args in
-    let e = no_rows (length a.rows.now) (length a.target.now) (length a.turned.now) (eq-eqb _ _ c.before.before.before.if1.false)
-    (le-ltb _ _ c.before.before.if2.false) (ne_eqb _ _ c.before.if3.true) in
-    (refused a.rows.now a.target.now a.turned.now e, c.plain3.ensures ∙ sym e)
+    let e = no_rows (length a.rows.now) (length a.target.now) (length a.turned-answer.now) (eq-eqb _ _ c.before.before.before.if-target-ne3.false)
+    (le-ltb _ _ c.before.before.if-turned-lt3.false) (ne_eqb _ _ c.before.if-rows-ne9.true) in
+    (refused a.rows.now a.target.now a.turned-answer.now e, c.plain-then-rows-ne9.ensures ∙ sym e)
 
-cosines-in-requires : tie.Need-cosines-in-requires
+cosines-in-requires : tie.Need-cosines_in-requires
 cosines-in-requires c κs = search rules
 
-triple-at-requires : tie.Need-triple-at-requires
+triple-at-requires : tie.Need-triple_at-requires
 triple-at-requires c κs = search rules
 
-turned-requires : tie.Need-turned-requires
+turned-requires : tie.Need-turned-answer-requires
 turned-requires c κs = search rules
 
-put-triple-requires : tie.Need-put-triple-requires
+put-triple-requires : tie.Need-put_triple-requires
 put-triple-requires c κs = search rules
 
-same_length : tie.Need-same-length
+same_length : tie.Need-shape_of-turned
 same_length c = search rules
 
-returns-4 : tie.Need-returns-4
+returns-4 : tie.Need-returns
 returns-4 c =
     let put = c.before.before in
     let answer = put.before.before in
@@ -103,15 +103,15 @@ returns-4 c =
     let rows = target.before in
     let left = rows.before in
     let a = left.before.before.before.before.before.before.args in
-    let e = taken (length a.rows.now) (length a.target.now) (length a.turned.now) (eq-eqb _ _ left.before.before.if1.false)
-    (le-ltb _ _ left.before.if2.false) (eq-eqb _ _ left.if3.false) in (
-      accepted a.rows.now a.target.now a.turned.now e (answer.turned.ensures.0
-          ∙ (λ i. turned_of (rows.cosines-in.ensures i) (target.triple-at.ensures i))) put.put-triple.ensures,
+    let e = taken (length a.rows.now) (length a.target.now) (length a.turned-answer.now) (eq-eqb _ _ left.before.before.if-target-ne3.false)
+    (le-ltb _ _ left.before.if-turned-lt3.false) (eq-eqb _ _ left.if-rows-ne9.false) in (
+      accepted a.rows.now a.target.now a.turned-answer.now e (answer.turned-answer.ensures.0
+          ∙ (λ i. turned_of (rows.cosines_in.ensures i) (target.triple_at.ensures i))) put.put_triple.ensures,
       sym e,
     )
 
-pub put-turned-spec : {M : Type 1} → statement M
-put-turned-spec =
+pub put_turned_spec : {M : Type 1} → statement M
+put_turned_spec =
     tie.close
     (tie.spec
     plain-requires

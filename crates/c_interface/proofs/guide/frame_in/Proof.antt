@@ -6,10 +6,10 @@ use Rattle.c_interface.specs.guide.Guider.{framed_in}
 use Rattle.c_interface.proofs.guide.frame_in.Statement.{statement}
 use Rattle.c_interface.proofs.guide.frame_in.Tie as tie
 
-guider-in-requires : tie.Need-guider-in-requires
+guider-in-requires : tie.Need-guider_in-requires
 guider-in-requires c κs = search rules
 
-listing-in-requires : tie.Need-listing-in-requires
+listing-in-requires : tie.Need-listing_in-requires
 listing-in-requires c κs = search rules
 
 frame-requires : tie.Need-frame-requires
@@ -17,7 +17,7 @@ frame-requires c κs = search rules
 
 returns : tie.Need-returns
 unfolding framed_in
-returns c = c.frame.ensures.0 ∙ (λ i. guided_of (c.before.before.guider-in.ensures i) (c.before.listing-in.ensures i))
+returns c = c.frame.ensures.0 ∙ (λ i. guided_of (c.before.before.guider_in.ensures i) (c.before.listing_in.ensures i))
 
-pub frame-in-spec : {M : Type 1} → statement M
-frame-in-spec = tie.close (tie.spec guider-in-requires listing-in-requires frame-requires returns)
+pub frame_in_spec : {M : Type 1} → statement M
+frame_in_spec = tie.close (tie.spec guider-in-requires listing-in-requires frame-requires returns)

@@ -5,27 +5,27 @@ use Rattle.c_numbers.specs.Numbers.{ranking_numbers}
 use Rattle.c_interface.proofs.guide.mnemathor_guider_frame.Statement.{statement}
 use Rattle.c_interface.proofs.guide.mnemathor_guider_frame.Tie as tie
 
-put-frame-requires : tie.Need-put-frame-requires
+put-frame-requires : tie.Need-put_frame-outcome-requires
 put-frame-requires c κs = search rules
 
-of-ranking-requires : tie.Need-of-ranking-requires
+of-ranking-requires : tie.Need-of_ranking-requires
 of-ranking-requires c κs = search rules
 
-hand-over-requires : tie.Need-hand-over-requires
+hand-over-requires : tie.Need-hand_over-requires
 hand-over-requires c κs = search rules
 
-same_length : tie.Need-same-length
+same_length : tie.Need-shape_of-guider
 same_length c = search rules
 
-same-length-2 : tie.Need-same-length-2
+same-length-2 : tie.Need-shape_of-out
 same-length-2 c = search rules
 
 returns : tie.Need-returns
 returns c =
     let put = c.before.before.before.before.before in
-    (put.put-frame.ensures.0, handed ranking_numbers _ c.before.hand-over.ensures c.before.before.of-ranking.ensures put.put-frame.ensures.1)
+    (put.put_frame-outcome.ensures.0, handed ranking_numbers _ c.before.hand_over.ensures c.before.before.of_ranking.ensures put.put_frame-outcome.ensures.1)
 
-pub mnemathor-guider-frame-spec : {M : Type 1} → statement M
-mnemathor-guider-frame-spec =
+pub mnemathor_guider_frame_spec : {M : Type 1} → statement M
+mnemathor_guider_frame_spec =
     tie.close
     (tie.spec put-frame-requires of-ranking-requires hand-over-requires same_length same-length-2 returns)

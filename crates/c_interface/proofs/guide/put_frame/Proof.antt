@@ -33,22 +33,22 @@ module _ (room list : List ℤ) where
 plain-requires : tie.Need-plain-requires
 plain-requires c κs = search rules
 
-returns : tie.Need-returns
+returns : tie.Need-returns-then-guider-ne-NUMBERS
 returns c =
     let a = c.before.before.args in
-    let u = untaken a.guider.now a.list.now (rw (ne_eqb _ _ c.before.if1.true)) in
+    let u = untaken a.guider.now a.list.now (rw (ne_eqb _ _ c.before.if-guider-ne-NUMBERS.true)) in
     (u.0, c.plain.ensures ∙ u.1)
 
-plain-requires-2 : tie.Need-plain-requires-2
+plain-requires-2 : tie.Need-plain-requires-then-list-ne64
 plain-requires-2 c κs = search rules
 
-returns-2 : tie.Need-returns-2
+returns-2 : tie.Need-returns-then-list-ne64
 returns-2 c =
     let a = c.before.before.before.args in
-    let u = untaken a.guider.now a.list.now (rw (eq-eqb _ _ c.before.before.if1.false, ne_eqb _ _ c.before.if2.true)) in
-    (u.0, c.plain2.ensures ∙ u.1)
+    let u = untaken a.guider.now a.list.now (rw (eq-eqb _ _ c.before.before.if-guider-ne-NUMBERS.false, ne_eqb _ _ c.before.if-list-ne64.true)) in
+    (u.0, c.plain-then-list-ne64.ensures ∙ u.1)
 
-sub-frame-in : tie.Need-overflow-sub-frame-in
+sub-frame-in : tie.Need-slice_bounds-frame_in-count
 sub-frame-in c = search rules
 
 part-frame-in-start : tie.Need-slice-bounds-frame-in-start
@@ -57,34 +57,34 @@ part-frame-in-start c = search rules
 part-frame-in-end : tie.Need-slice-bounds-frame-in-end
 part-frame-in-end c = search rules
 
-frame-in-requires : tie.Need-frame-in-requires
+frame-in-requires : tie.Need-frame_in-framed-requires
 frame-in-requires c κs = search rules
 
 -- the whole room is lent
-framed : (c : tie.After-frame-in) → c.frame-in.result ≡ framed_in c.before.before.before.before.before.args.guider.now
+framed : (c : tie.After-frame_in-framed) → c.frame_in-framed.result ≡ framed_in c.before.before.before.before.before.args.guider.now
     c.before.before.before.before.before.args.list.now
 framed c =
     let o = c.before.before.before.before.before.args in
-    c.frame-in.ensures ∙ ap (λ (room : List ℤ). framed_in room o.list.now) (take_all 18 o.guider.now (search rules))
+    c.frame_in-framed.ensures ∙ ap (λ (room : List ℤ). framed_in room o.list.now) (take_all 18 o.guider.now (search rules))
 
-put-framed-requires : tie.Need-put-framed-requires
+put-framed-requires : tie.Need-put_framed-requires
 put-framed-requires c κs =
     let o = c.before.before.before.before.before.before.args in
     (search rules, few o.guider.now o.list.now (framed c.before))
 
-same_length : tie.Need-same-length
+same_length : tie.Need-shape_of-guider
 same_length c = search rules
 
-returns-3 : tie.Need-returns-3
+returns-3 : tie.Need-returns
 returns-3 c =
     let put = c.before in
     let frame = put.before.before in
     let left = frame.before.before.before in
     let a = left.before.before.args in
-    is-taken a.guider.now a.list.now (rw (eq-eqb _ _ left.before.if1.false, eq-eqb _ _ left.if2.false)) (framed frame) put.put-framed.ensures
+    is-taken a.guider.now a.list.now (rw (eq-eqb _ _ left.before.if-guider-ne-NUMBERS.false, eq-eqb _ _ left.if-list-ne64.false)) (framed frame) put.put_framed.ensures
 
-pub put-frame-spec : {M : Type 1} → statement M
-put-frame-spec =
+pub put_frame_spec : {M : Type 1} → statement M
+put_frame_spec =
     tie.close
     (tie.spec
     plain-requires

@@ -30,32 +30,32 @@ module _ (half : ℤ) (stars room : List ℤ) where
 plain-requires : tie.Need-plain-requires
 plain-requires c κs = search rules
 
-returns : tie.Need-returns
+returns : tie.Need-returns-then-guider-ne-NUMBERS
 returns c =
     let a = c.before.before.args in
-    let u = untaken a.half a.stars.now a.guider.now (ne_eqb _ _ c.before.if1.true) in
+    let u = untaken a.half a.stars.now a.guider.now (ne_eqb _ _ c.before.if-guider-ne-NUMBERS.true) in
     (u.0, c.plain.ensures ∙ u.1)
 
-start-in-requires : tie.Need-start-in-requires
+start-in-requires : tie.Need-start_in-started-requires
 start-in-requires c κs = search rules
 
-put-started-requires : tie.Need-put-started-requires
+put-started-requires : tie.Need-put_started-requires
 put-started-requires c κs = search rules
 
-same_length : tie.Need-same-length
+same_length : tie.Need-shape_of-guider
 same_length c = search rules
 
-returns-2 : tie.Need-returns-2
+returns-2 : tie.Need-returns
 returns-2 c =
     let put = c.before in
     let start = put.before.before in
     let o = start.before.before in
     taken o.args.half o.args.stars.now o.args.guider.now
-    (eq-eqb _ _ start.before.if1.false)
-    (start.start-in.ensures ∙ ap (λ (z : ℤ). started_in z o.args.stars.now) (to_z-of_z w64 o.args.half o.ranges.half))
-    put.put-started.ensures
+    (eq-eqb _ _ start.before.if-guider-ne-NUMBERS.false)
+    (start.start_in-started.ensures ∙ ap (λ (z : ℤ). started_in z o.args.stars.now) (to_z-of_z w64 o.args.half o.ranges.half))
+    put.put_started.ensures
 
-pub put-start-spec : {M : Type 1} → statement M
-put-start-spec =
+pub put_start_spec : {M : Type 1} → statement M
+put_start_spec =
     tie.close
     (tie.spec plain-requires returns start-in-requires put-started-requires same_length returns-2)

@@ -17,30 +17,30 @@ use Rattle.c_interface.proofs.guide.start_in.Tie as tie
 unmade-requires : tie.Need-unmade-requires
 unmade-requires c κs = search rules
 
-returns : tie.Need-returns
+returns : tie.Need-returns-then-stars-ne0
 unfolding started_in
-returns c = rw (ne_eqb _ _ c.before.if1.true) c.unmade.ensures
+returns c = rw (ne_eqb _ _ c.before.if-stars-ne0.true) c.unmade.ensures
 
 unsigned-requires : tie.Need-unsigned-requires
 unsigned-requires c κs = search rules
 
-sightings-in-requires : tie.Need-sightings-in-requires
+sightings-in-requires : tie.Need-sightings_in-requires
 sightings-in-requires c κs = search rules
 
 start-requires : tie.Need-start-requires
 start-requires c κs = search rules
 
-returns-2 : tie.Need-returns-2
+returns-2 : tie.Need-returns
 unfolding started_in
 returns-2 c =
     let s = c.before in
     let u = s.before in
     let o = u.before.before in
     let half = u.unsigned.ensures ∙ ap unsigned_of (to_z-of_z w64 o.args.half o.ranges.half) in
-    rw (eq-eqb _ _ u.before.if1.false) (c.start.ensures.0 ∙ (λ i. started_of (half i) (s.sightings-in.ensures i) (length o.args.stars.now / 3)))
+    rw (eq-eqb _ _ u.before.if-stars-ne0.false) (c.start.ensures.0 ∙ (λ i. started_of (half i) (s.sightings_in.ensures i) (length o.args.stars.now / 3)))
 
-pub start-in-spec : {M : Type 1} → statement M
-start-in-spec =
+pub start_in_spec : {M : Type 1} → statement M
+start_in_spec =
     tie.close
     (tie.spec
     unmade-requires

@@ -9,19 +9,19 @@ use borrow.Author.Rules.{rules}
 use Rattle.c_interface.proofs.identify.mnemathor_search.Statement.{statement}
 use Rattle.c_interface.proofs.identify.mnemathor_search.Tie as tie
 
-search-requires : tie.Need-search-requires
+search-requires : tie.Need-search-identification-requires
 search-requires c κs = search rules
 
-records-requires : tie.Need-records-requires
+records-requires : tie.Need-records-stars-requires
 records-requires c κs = search rules
 
-of-search-requires : tie.Need-of-search-requires
+of-search-requires : tie.Need-of_search-requires
 of-search-requires c κs = search rules
 
-hand-over-requires : tie.Need-hand-over-requires
+hand-over-requires : tie.Need-hand_over-requires
 hand-over-requires c κs = search rules
 
-same_length : tie.Need-same-length
+same_length : tie.Need-shape_of-out
 same_length c = search rules
 
 returns : tie.Need-returns
@@ -32,12 +32,12 @@ returns c =
     let a = s.before.before.before.args in
     let d = a.directions.now in
     let b = a.catalogue.now in
-    handed (search_numbers (directions_in d) (records_in b)) _ c.before.hand-over.ensures
-    (o.of-search.ensures ∙ ap (λ (k : ℕ). search_numbers (directions_in d) k s.search.result) n.records.ensures)
-    s.search.ensures.1
+    handed (search_numbers (directions_in d) (records_in b)) _ c.before.hand_over.ensures
+    (o.of_search.ensures ∙ ap (λ (k : ℕ). search_numbers (directions_in d) k s.search-identification.result) n.records-stars.ensures)
+    s.search-identification.ensures.1
 
-pub mnemathor-search-spec : {M : Type 1} → statement M
-mnemathor-search-spec =
+pub mnemathor_search_spec : {M : Type 1} → statement M
+mnemathor_search_spec =
     tie.close
     (tie.spec
     search-requires

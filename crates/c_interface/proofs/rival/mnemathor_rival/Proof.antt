@@ -9,19 +9,19 @@ use borrow.Author.Rules.{rules}
 use Rattle.c_interface.proofs.rival.mnemathor_rival.Statement.{statement}
 use Rattle.c_interface.proofs.rival.mnemathor_rival.Tie as tie
 
-rival-requires : tie.Need-rival-requires
+rival-requires : tie.Need-rival-contest-requires
 rival-requires c κs = search rules
 
-records-requires : tie.Need-records-requires
+records-requires : tie.Need-records-stars-requires
 records-requires c κs = search rules
 
-of-rival-requires : tie.Need-of-rival-requires
+of-rival-requires : tie.Need-of_rival-requires
 of-rival-requires c κs = search rules
 
-hand-over-requires : tie.Need-hand-over-requires
+hand-over-requires : tie.Need-hand_over-requires
 hand-over-requires c κs = search rules
 
-same_length : tie.Need-same-length
+same_length : tie.Need-shape_of-out
 same_length c = search rules
 
 returns : tie.Need-returns
@@ -32,12 +32,12 @@ returns c =
     let a = s.before.before.before.args in
     let d = a.directions.now in
     let b = a.catalogue.now in
-    handed (rival_numbers (directions_in d) (records_in b)) _ c.before.hand-over.ensures
-    (o.of-rival.ensures ∙ ap (λ (k : ℕ). rival_numbers (directions_in d) k s.rival.result) n.records.ensures)
-    s.rival.ensures.1
+    handed (rival_numbers (directions_in d) (records_in b)) _ c.before.hand_over.ensures
+    (o.of_rival.ensures ∙ ap (λ (k : ℕ). rival_numbers (directions_in d) k s.rival-contest.result) n.records-stars.ensures)
+    s.rival-contest.ensures.1
 
-pub mnemathor-rival-spec : {M : Type 1} → statement M
-mnemathor-rival-spec =
+pub mnemathor_rival_spec : {M : Type 1} → statement M
+mnemathor_rival_spec =
     tie.close
     (tie.spec
     rival-requires

@@ -19,19 +19,19 @@ named : (rival : Bool) (words : List ℕ) (directions stars one shown : ℕ) (fl
 unfolding joined with_names
 named rival words directions stars one shown flat p q s = (λ i. with_names 3 words (s i) stars 8 ((q ∙ ap (λ (n : ℕ). accepted_numbers (signed_of n ∷ [])) p) i))
 
-if-rival-requires : tie.Need-if-rival-requires
+if-rival-requires : tie.Need-if_rival-requires
 if-rival-requires c κs = search rules
 
-of-count-requires : tie.Need-of-count-requires
+of-count-requires : tie.Need-of_count-requires
 of-count-requires c κs = search rules
 
-if-rival-requires-2 : tie.Need-if-rival-requires-2
+if-rival-requires-2 : tie.Need-if_rival-requires-2
 if-rival-requires-2 c κs = search rules
 
-put-names-requires : tie.Need-put-names-requires
+put-names-requires : tie.Need-put_names-named-requires
 put-names-requires c κs = search rules
 
-of-outcome-requires : tie.Need-of-outcome-requires
+of-outcome-requires : tie.Need-of_outcome-requires
 of-outcome-requires c κs = search rules
 
 returns : tie.Need-returns
@@ -41,14 +41,14 @@ returns c =
     let count = second.before in
     let first = count.before in
     let a = first.before.before.args in
-    c.of-outcome.ensures
+    c.of_outcome.ensures
     ∙ ap (outcome_numbers a.contest.outcome)
-    (names.put-names.ensures
-    ∙ named a.contest.rival a.contest.stars a.directions a.stars _ _ _ first.if-rival.ensures count.of-count.ensures
-    second.if-rival2.ensures)
+    (names.put_names-named.ensures
+    ∙ named a.contest.rival a.contest.stars a.directions a.stars _ _ _ first.if_rival.ensures count.of_count.ensures
+    second.if_rival-2.ensures)
 
-pub of-rival-spec : {M : Type 1} → statement M
-of-rival-spec =
+pub of_rival_spec : {M : Type 1} → statement M
+of_rival_spec =
     tie.close
     (tie.spec
     if-rival-requires

@@ -9,16 +9,16 @@ use borrow.Author.Rules.{rules}
 use Rattle.c_interface.proofs.track.of_chain.Statement.{statement}
 use Rattle.c_interface.proofs.track.of_chain.Tie as tie
 
-of-report-requires : tie.Need-of-report-requires
+of-report-requires : tie.Need-of_report-requires
 of-report-requires c κs = search rules
 
-put-names-requires : tie.Need-put-names-requires
+put-names-requires : tie.Need-put_names-named-requires
 put-names-requires c κs = search rules
 
-put-matrix-requires : tie.Need-put-matrix-requires
+put-matrix-requires : tie.Need-put_matrix-requires
 put-matrix-requires c κs = search rules
 
-of-outcome-requires : tie.Need-of-outcome-requires
+of-outcome-requires : tie.Need-of_outcome-requires
 of-outcome-requires c κs = search rules
 
 returns : tie.Need-returns
@@ -29,14 +29,14 @@ returns c =
     let report = names.before in
     let a = report.before.before.before.before.args in
     let t = a.tracked in
-    c.of-outcome.ensures
+    c.of_outcome.ensures
     ∙ ap (outcome_numbers t.outcome)
-    (matrix.put-matrix.ensures
+    (matrix.put_matrix.ensures
     ∙ ap (λ (xs : List ℤ). with_matrix xs 38 t.matrix)
-    (names.put-names.ensures ∙ ap (λ (xs : List ℤ). with_names 30 t.stars t.report.count a.stars 8 xs) report.of-report.ensures))
+    (names.put_names-named.ensures ∙ ap (λ (xs : List ℤ). with_names 30 t.stars t.report.count a.stars 8 xs) report.of_report.ensures))
 
-pub of-chain-spec : {M : Type 1} → statement M
-of-chain-spec =
+pub of_chain_spec : {M : Type 1} → statement M
+of_chain_spec =
     tie.close
     (tie.spec
     of-report-requires

@@ -30,15 +30,15 @@ module _ (s : tie.Start) where
   both e = in-terms direction_answer e (answers s.args.cx s.args.cy s.args.lens s.args.x s.args.y)
 
 -- where a whole number is given
-module _ (c : tie.After-known-told2) where
+module _ (c : tie.In-Whole) where
   abbrev start : tie.Start
   start = c.before.before.before.before
 
   abbrev given : ℤ
-  given = c.before.focal.given.0.0
+  given = c.before.focal-1.given.0.0
 
   known : (lens_ok start.args.lens ≡ true) × (given ≡ pos (focal_number start.args.lens))
-  known = whole-given start.args.lens given (sym c.before.before.before.focal-of.ensures.0 ∙ c.before.focal.given.1)
+  known = whole-given start.args.lens given (sym c.before.before.before.focal_of.ensures.0 ∙ c.before.focal-1.given.1)
 
   given-between : Between 16384 4194304 given
   given-between = subst (Between 16384 4194304) (sym known.1) (focal-between start.args.lens known.0)
@@ -46,36 +46,36 @@ module _ (c : tie.After-known-told2) where
   abbrev F : Num w64
   F = arg (between-within _ _ given-between) tt
 
-focal-of-requires : tie.Need-focal-of-requires
+focal-of-requires : tie.Need-focal_of-requires
 focal-of-requires c κs = search rules
 
-enum-known-r : tie.Need-enum-known-r
+enum-known-r : tie.Need-enum_known-r
 enum-known-r c = search rules
 
-enum-known-focal : tie.Need-enum-known-focal
+enum-known-focal : tie.Need-enum_known-focal
 enum-known-focal c = search rules
 
-direction-by-focal-requires : tie.Need-direction-by-focal-requires
+direction-by-focal-requires : tie.Need-direction_by_focal-requires
 direction-by-focal-requires c κs = subst (Between 16384 4194304) (sym (back (F c))) (given-between c)
 
-returns : tie.Need-returns
+returns : tie.Need-returns-in-Refused
 returns c =
     let s = c.before.before.before.before in
-    let k = refused-given s.args.lens c.before.r.given.0.0 (sym c.before.before.before.focal-of.ensures.0 ∙ c.before.r.given.1) in
+    let k = refused-given s.args.lens c.before.r-1.given.0.0 (sym c.before.before.before.focal_of.ensures.0 ∙ c.before.r-1.given.1) in
     both s (ap (λ (r : Refusal). Refused r) k.1 ∙ sym (lens-out s.args.cx s.args.cy s.args.lens s.args.x s.args.y k.0))
 
-returns-2 : tie.Need-returns-2
+returns-2 : tie.Need-returns-in-Whole
 returns-2 c =
     let p = c.before in
     let s = start p in
     let f = s.fits in
     both s
-    (c.direction-by-focal.ensures.0
+    (c.direction_by_focal.ensures.0
     ∙ (λ i. whole.direction_of (back (param f.cx) i) (back (param f.cy) i) ((back (F p) ∙ (known p).1) i) (back (param f.x) i) (back (param f.y) i))
     ∙ sym (by_whole s.args.cx s.args.cy s.args.lens s.args.x s.args.y (known p).0))
 
-pub direction-of-spec : {M : Type 1} → statement M
-direction-of-spec =
+pub direction_of_spec : {M : Type 1} → statement M
+direction_of_spec =
     tie.close
     (tie.spec
     focal-of-requires

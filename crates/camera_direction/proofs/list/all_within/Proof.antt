@@ -15,60 +15,60 @@ use Rattle.camera_direction.specs.ListSteps.{all_end, all-stop, all-on}
 use Rattle.camera_direction.proofs.list.all_within.Statement.{statement}
 use Rattle.camera_direction.proofs.list.all_within.Tie as tie
 
-abbrev invariant-loop : tie.invariant-loop
+abbrev invariant-loop : tie.invariant-loop-k
 invariant-loop v k₀ k = (k ≤ length v) × (all_within largest v ≡ all_within largest (drop k v))
 
-abbrev decreases-loop : tie.decreases-loop
+abbrev decreases-loop : tie.decreases-loop-k
 decreases-loop v k₀ k = length v - k
 
-abbrev element : tie.After-within-arg invariant-loop decreases-loop → Num w64
-element c = cast {w = w32} (held (get_or c.before.before.before.args.v.now c.before.before.loop.k (pos 0)) c.Within-arg.given) tt
+abbrev element : tie.After-within-arg-1 invariant-loop decreases-loop → Num w64
+element c = cast {w = w32} (held (get_or c.before.before.before.args.v.now c.before.before.loop-k.k (pos 0)) c.Within-arg.given) tt
 
 -- the test's outcome, of the number itself
 tested : (c : tie.After-within invariant-loop decreases-loop) → c.within.result ≡ leb
-    (nat_abs (get_or c.before.before.before.before.args.v.now c.before.before.before.loop.k (pos 0))) largest
+    (nat_abs (get_or c.before.before.before.before.args.v.now c.before.before.before.loop-k.k (pos 0))) largest
 tested c = c.within.ensures ∙ ap (λ (x : ℤ). leb (nat_abs x) largest) (back (element c.before))
 
-loop-holds : tie.Need-loop-init invariant-loop decreases-loop
+loop-holds : tie.Need-loop-k-init invariant-loop decreases-loop
 loop-holds c = (omega arith, refl)
 
-mul-within : tie.Need-overflow-mul-within invariant-loop decreases-loop
+mul-within : tie.Need-offset_bounds-v-k invariant-loop decreases-loop
 mul-within c = search rules
 
-shared-slice-copy-out-within : tie.Need-shared-slice-copy-out-within invariant-loop decreases-loop
+shared-slice-copy-out-within : tie.Need-bounds-v-k invariant-loop decreases-loop
 shared-slice-copy-out-within c = search rules
 
-cast-within : tie.Need-overflow-cast-within invariant-loop decreases-loop
+cast-within : tie.Need-overflow_cast-v invariant-loop decreases-loop
 cast-within c = fits (element c)
 
 within-requires : tie.Need-within-requires invariant-loop decreases-loop
 within-requires c κs = search rules
 
-returns : tie.Need-returns invariant-loop decreases-loop
+returns : tie.Need-returns-then-not-within invariant-loop decreases-loop
 returns c =
-    let l = c.before.before.before.before.loop in
+    let l = c.before.before.before.before.loop-k in
     let v = c.before.before.before.before.before.args.v.now in
-    sym (l.invariant.1 ∙ all-stop largest v l.k (omega arith) (sym (tested c.before) ∙ not-true _ c.if1.true))
+    sym (l.invariant.1 ∙ all-stop largest v l.k (omega arith) (sym (tested c.before) ∙ not-true _ c.if-not-within.true))
 
-add-k : tie.Need-overflow-add-k invariant-loop decreases-loop
+add-k : tie.Need-overflow_add-k invariant-loop decreases-loop
 add-k c = search rules
 
-loop-less : tie.Need-loop-smaller invariant-loop decreases-loop
+loop-less : tie.Need-loop-k-smaller invariant-loop decreases-loop
 loop-less c = search rules
 
-loop-again : tie.Need-loop-preserved invariant-loop decreases-loop
+loop-again : tie.Need-loop-k-preserved invariant-loop decreases-loop
 loop-again c =
-    let l = c.before.before.before.before.loop in
+    let l = c.before.before.before.before.loop-k in
     let v = c.before.before.before.before.before.args.v.now in
-    (omega arith, l.invariant.1 ∙ all-on largest v l.k (omega arith) (sym (tested c.before) ∙ not-false _ c.if1.false))
+    (omega arith, l.invariant.1 ∙ all-on largest v l.k (omega arith) (sym (tested c.before) ∙ not-false _ c.if-not-within.false))
 
-returns-2 : tie.Need-returns-2 invariant-loop decreases-loop
+returns-2 : tie.Need-returns invariant-loop decreases-loop
 returns-2 c =
-    let l = c.before.loop in
-    sym (l.invariant.1 ∙ all_end largest c.before.before.args.v.now l.k c.loop-test.false)
+    let l = c.before.loop-k in
+    sym (l.invariant.1 ∙ all_end largest c.before.before.args.v.now l.k c.loop-k-test.false)
 
-pub all-within-spec : {M : Type 1} → statement M
-all-within-spec =
+pub all_within_spec : {M : Type 1} → statement M
+all_within_spec =
     tie.close
     (tie.spec
     invariant-loop

@@ -13,14 +13,14 @@ use Rattle.camera_direction.proofs.position.norm.Statement.{statement}
 use Rattle.camera_direction.proofs.position.norm.Tie as tie
 
 -- each size is that of the offset itself
-x-size : (c : tie.After-abs) → c.abs.result ≡ nat_abs c.before.args.x
-x-size c = c.abs.ensures ∙ ap nat_abs (back (arg {w = w64} c.before.requires.0 tt))
+x-size : (c : tie.After-abs-a) → c.abs-a.result ≡ nat_abs c.before.args.x
+x-size c = c.abs-a.ensures ∙ ap nat_abs (back (arg {w = w64} c.before.requires.0 tt))
 
-y-size : (c : tie.After-abs2) → c.abs2.result ≡ nat_abs c.before.before.args.y
-y-size c = c.abs2.ensures ∙ ap nat_abs (back (arg {w = w64} c.before.before.requires.1.0 tt))
+y-size : (c : tie.After-abs-b) → c.abs-b.result ≡ nat_abs c.before.before.args.y
+y-size c = c.abs-b.ensures ∙ ap nat_abs (back (arg {w = w64} c.before.before.requires.1.0 tt))
 
-f-size : (c : tie.After-abs3) → c.abs3.result ≡ nat_abs c.before.before.before.args.focal
-f-size c = c.abs3.ensures ∙ ap nat_abs (back (arg {w = w64} c.before.before.before.requires.1.1 tt))
+f-size : (c : tie.After-abs-c) → c.abs-c.result ≡ nat_abs c.before.before.before.args.focal
+f-size c = c.abs-c.ensures ∙ ap nat_abs (back (arg {w = w64} c.before.before.before.requires.1.1 tt))
 
 -- the squares, and their bounds
 record Squares (a b c : ℕ) : Type 0 where
@@ -28,7 +28,7 @@ record Squares (a b c : ℕ) : Type 0 where
   y : b * b ≤ 274341298176
   f : c * c ≤ 17592186044416
 
-squares : (c : tie.After-abs3) → Squares c.before.before.abs.result c.before.abs2.result c.abs3.result
+squares : (c : tie.After-abs-c) → Squares c.before.before.abs-a.result c.before.abs-b.result c.abs-c.result
 squares c =
     let s = c.before.before.before in
     let p = s.requires in
@@ -39,31 +39,31 @@ squares c =
       f = rw (f-size c) (f-small q.x q.y q.focal p.0 p.1.0 p.1.1);
     }
 
-abs-requires : tie.Need-abs-requires
+abs-requires : tie.Need-abs-a-requires
 abs-requires c κs = search rules
 
-abs-requires-2 : tie.Need-abs-requires-2
+abs-requires-2 : tie.Need-abs-b-requires
 abs-requires-2 c κs = search rules
 
-abs-requires-3 : tie.Need-abs-requires-3
+abs-requires-3 : tie.Need-abs-c-requires
 abs-requires-3 c κs = search rules
 
-mul-root : tie.Need-overflow-mul-root
+mul-root : tie.Need-overflow_mul-a
 mul-root c = omega (arith, squares c)
 
-mul-root-2 : tie.Need-overflow-mul-root-2
+mul-root-2 : tie.Need-overflow_mul-b
 mul-root-2 c = omega (arith, squares c)
 
-add-root : tie.Need-overflow-add-root
+add-root : tie.Need-overflow_add-a
 add-root c = omega (arith, squares c)
 
-mul-root-3 : tie.Need-overflow-mul-root-3
+mul-root-3 : tie.Need-overflow_mul-c
 mul-root-3 c = omega (arith, squares c)
 
-add-root-2 : tie.Need-overflow-add-root-2
+add-root-2 : tie.Need-overflow_add-a-2
 add-root-2 c = omega (arith, squares c)
 
-mul-root-4 : tie.Need-overflow-mul-root-4
+mul-root-4 : tie.Need-overflow_mul-a-2
 mul-root-4 c = omega (arith, squares c)
 
 root-requires : tie.Need-root-requires
@@ -78,8 +78,8 @@ returns c =
     let d = f-size p in
     c.root.ensures ∙ (λ i. root_of (65536 * (a i * a i + b i * b i + d i * d i)))
 
-pub norm-spec : {M : Type 1} → statement M
-norm-spec =
+pub norm_spec : {M : Type 1} → statement M
+norm_spec =
     tie.close
     (tie.spec
     abs-requires

@@ -13,5 +13,5 @@ between-requires c κs = search rules
 returns : tie.Need-returns
 returns c = c.between.ensures ∙ ap (λ (z : ℤ). place_ok z) (back (param c.before.ranges.v))
 
-pub place-ok-spec : {M : Type 1} → statement M
-place-ok-spec = tie.close (tie.spec between-requires returns)
+pub place_ok_spec : {M : Type 1} → statement M
+place_ok_spec = tie.close (tie.spec between-requires returns)

@@ -7,24 +7,24 @@ use borrow.Author.Rules.{rules}
 use Rattle.camera_direction.proofs.settings.position_ok.Statement.{statement}
 use Rattle.camera_direction.proofs.settings.position_ok.Tie as tie
 
-x-tested : (c : tie.After-place-ok) → c.Place-ok.result ≡ place_ok c.before.args.x
+x-tested : (c : tie.After-place_ok) → c.Place-ok.result ≡ place_ok c.before.args.x
 x-tested c = c.Place-ok.ensures ∙ ap (λ (z : ℤ). place_ok z) (back (param c.before.ranges.x))
 
-place-ok-requires : tie.Need-place-ok-requires
+place-ok-requires : tie.Need-place_ok-requires
 place-ok-requires c κs = search rules
 
-place-ok-requires-2 : tie.Need-place-ok-requires-2
+place-ok-requires-2 : tie.Need-place_ok-requires-then-place_ok
 place-ok-requires-2 c κs = search rules
 
-returns : tie.Need-returns
+returns : tie.Need-returns-then-place_ok
 unfolding position_ok
 returns c =
     let s = c.before.before.before in
-    rw (sym (x-tested c.before.before) ∙ c.before.if1.true) (c.place-ok2.ensures ∙ ap (λ (z : ℤ). place_ok z) (back (param s.ranges.y)))
+    rw (sym (x-tested c.before.before) ∙ c.before.if-place_ok.true) (c.place_ok-then-place_ok.ensures ∙ ap (λ (z : ℤ). place_ok z) (back (param s.ranges.y)))
 
-returns-2 : tie.Need-returns-2
+returns-2 : tie.Need-returns
 unfolding position_ok
-returns-2 c = rw (sym (x-tested c.before) ∙ c.if1.false)
+returns-2 c = rw (sym (x-tested c.before) ∙ c.if-place_ok.false)
 
-pub position-ok-spec : {M : Type 1} → statement M
-position-ok-spec = tie.close (tie.spec place-ok-requires place-ok-requires-2 returns returns-2)
+pub position_ok_spec : {M : Type 1} → statement M
+position_ok_spec = tie.close (tie.spec place-ok-requires place-ok-requires-2 returns returns-2)

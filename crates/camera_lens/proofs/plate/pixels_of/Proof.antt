@@ -14,17 +14,17 @@ literal = refl
 by-plate : {l : Lens} (x y : Float) → l ≡ Millimetres x y → div binary64 (mul binary64 x (of_bits binary64 0x408f_4000_0000_0000)) y ≡ pixels_of l
 by-plate x y e = ap (λ (k : Float). div binary64 (mul binary64 x k) y) literal ∙ sym (ap (λ (m : Lens). pixels_of m) e)
 
-enum-known-lens : tie.Need-enum-known-lens
+enum-known-lens : tie.Need-enum_known-lens
 enum-known-lens c = search rules
 
-enum-known-lens-2 : tie.Need-enum-known-lens-2
+enum-known-lens-2 : tie.Need-enum_known-lens-in-Pixels-1
 enum-known-lens-2 c = search rules
 
-returns : tie.Need-returns
-returns c = let g = c.before.lens.given in by-plate g.0.0 g.0.1.0 g.1
+returns : tie.Need-returns-in-Millimetres
+returns c = let g = c.before.lens-1.given in by-plate g.0.0 g.0.1.0 g.1
 
-returns-2 : tie.Need-returns-2
+returns-2 : tie.Need-returns-in-Pixels
 returns-2 c = search rules
 
-pub pixels-of-spec : {M : Type 1} → statement M
-pixels-of-spec = tie.close (tie.spec enum-known-lens enum-known-lens-2 returns returns-2)
+pub pixels_of_spec : {M : Type 1} → statement M
+pixels_of_spec = tie.close (tie.spec enum-known-lens enum-known-lens-2 returns returns-2)

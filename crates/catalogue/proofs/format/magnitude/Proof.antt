@@ -8,21 +8,21 @@ use borrow.Author.Rules.{rules}
 use Rattle.catalogue.proofs.format.magnitude.Statement.{statement}
 use Rattle.catalogue.proofs.format.magnitude.Tie as tie
 
-mul-u32-at : tie.Need-overflow-mul-u32-at
+mul-u32-at : tie.Need-overflow_mul-i
 mul-u32-at c = search rules
 
-add-u32-at : tie.Need-overflow-add-u32-at
+add-u32-at : tie.Need-overflow_add-i
 add-u32-at c = search rules
 
-u32-at-requires : tie.Need-u32-at-requires
+u32-at-requires : tie.Need-u32_at-requires
 u32-at-requires c κs = search rules
 
-signed-32-requires : tie.Need-signed-32-requires
+signed-32-requires : tie.Need-signed_32-requires
 signed-32-requires c κs = search rules
 
 returns : tie.Need-returns
 unfolding magnitude_of
-returns c = kept w32 c.signed-32.type-inv (c.signed-32.ensures ∙ ap signed32_of c.before.u32-at.ensures)
+returns c = kept w32 c.signed_32.type_inv (c.signed_32.ensures ∙ ap signed32_of c.before.u32_at.ensures)
 
-pub magnitude-spec : {M : Type 1} → statement M
-magnitude-spec = tie.close (tie.spec mul-u32-at add-u32-at u32-at-requires signed-32-requires returns)
+pub magnitude_spec : {M : Type 1} → statement M
+magnitude_spec = tie.close (tie.spec mul-u32-at add-u32-at u32-at-requires signed-32-requires returns)

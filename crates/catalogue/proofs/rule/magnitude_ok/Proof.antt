@@ -12,15 +12,15 @@ m s = param s.ranges.m
 abbrev least : Num w32
 least = lit brightest tt
 
-returns : tie.Need-returns
+returns : tie.Need-returns-then-m-ge-BRIGHTEST
 unfolding magnitude_ok
 returns c =
     let s = c.before in
-    rw (tested_le least (m s) c.if1.true) (λ i. le_z (back (m s) i) faintest)
+    rw (tested_le least (m s) c.if-m-ge-BRIGHTEST.true) (λ i. le_z (back (m s) i) faintest)
 
-returns-2 : tie.Need-returns-2
+returns-2 : tie.Need-returns
 unfolding magnitude_ok
-returns-2 c = rw (tested_le least (m c.before) c.if1.false)
+returns-2 c = rw (tested_le least (m c.before) c.if-m-ge-BRIGHTEST.false)
 
-pub magnitude-ok-spec : {M : Type 1} → statement M
-magnitude-ok-spec = tie.close (tie.spec returns returns-2)
+pub magnitude_ok_spec : {M : Type 1} → statement M
+magnitude_ok_spec = tie.close (tie.spec returns returns-2)

@@ -9,19 +9,19 @@ use borrow.Author.Rules.{rules}
 use Rattle.catalogue.proofs.rule.record_ok.Statement.{statement}
 use Rattle.catalogue.proofs.rule.record_ok.Tie as tie
 
-kept : (c : tie.Else1) → star_ok c.before.before.before.args.bytes.now c.before.before.before.args.i ≡ true
-kept c = sym c.before.star-ok.ensures ∙ not-false _ c.if1.false
+kept : (c : tie.Else-not-star_ok) → star_ok c.before.before.before.args.bytes.now c.before.before.before.args.i ≡ true
+kept c = sym c.before.star_ok.ensures ∙ c.if-not-star_ok.false
 
-star-ok-requires : tie.Need-star-ok-requires
+star-ok-requires : tie.Need-star_ok-requires
 star-ok-requires c κs = search rules
 
-returns : tie.Need-returns
-returns c = sym (star-broken _ _ (sym c.before.star-ok.ensures ∙ not-true _ c.if1.true))
+returns : tie.Need-returns-then-not-star_ok
+returns c = sym (star-broken _ _ (sym c.before.star_ok.ensures ∙ c.if-not-star_ok.true))
 
-returns-2 : tie.Need-returns-2
-returns-2 c = sym (star-kept _ _ (kept c.before) ∙ rises-first _ _ c.if2.true)
+returns-2 : tie.Need-returns-then-i-eq0
+returns-2 c = sym (star-kept _ _ (kept c.before) ∙ rises-first _ _ c.if-i-eq0.true)
 
-sub-identity : tie.Need-overflow-sub-identity
+sub-identity : tie.Need-overflow_sub-i
 sub-identity c = search rules
 
 identity-requires : tie.Need-identity-requires
@@ -30,13 +30,13 @@ identity-requires c κs = search rules
 identity-requires-2 : tie.Need-identity-requires-2
 identity-requires-2 c κs = search rules
 
-returns-3 : tie.Need-returns-3
+returns-3 : tie.Need-returns
 returns-3 c =
     let p = c.before.before in
-    (λ j. ltb (c.before.identity.ensures j) (c.identity2.ensures j)) ∙ sym (star-kept _ _ (kept p.before) ∙ rises_next _ _ p.if2.false)
+    (λ j. ltb (c.before.identity.ensures j) (c.identity-2.ensures j)) ∙ sym (star-kept _ _ (kept p.before) ∙ rises_next _ _ p.if-i-eq0.false)
 
-pub record-ok-spec : {M : Type 1} → statement M
-record-ok-spec =
+pub record_ok_spec : {M : Type 1} → statement M
+record_ok_spec =
     tie.close
     (tie.spec
     star-ok-requires

@@ -10,64 +10,64 @@ use borrow.Author.Rules.{rules}
 use Rattle.catalogue.proofs.rule.star_ok.Statement.{statement}
 use Rattle.catalogue.proofs.rule.star_ok.Tie as tie
 
-abbrev x : tie.After-component → Num w64
-x c = cast {w = w32} (held c.component.result c.component.type-inv) tt
+abbrev x : tie.After-component-x → Num w64
+x c = cast {w = w32} (held c.component-x.result c.component-x.type_inv) tt
 
-abbrev y : tie.After-component2 → Num w64
-y c = cast {w = w32} (held c.component2.result c.component2.type-inv) tt
+abbrev y : tie.After-component-y → Num w64
+y c = cast {w = w32} (held c.component-y.result c.component-y.type_inv) tt
 
-abbrev z : tie.After-component3 → Num w64
-z c = cast {w = w32} (held c.component3.result c.component3.type-inv) tt
+abbrev z : tie.After-component-z → Num w64
+z c = cast {w = w32} (held c.component-z.result c.component-z.type_inv) tt
 
 -- the test of the direction, of the numbers that the record holds
-tested : (c : tie.After-direction-ok) → c.direction-ok.result ≡ direction c.before.before.before.before.before.args.bytes.now
+tested : (c : tie.After-direction_ok) → c.direction_ok.result ≡ direction c.before.before.before.before.before.args.bytes.now
     c.before.before.before.before.before.args.i
 tested c =
     let p = c.before in
     let q = p.before in
-    let ex = back (x q.before) ∙ q.before.component.ensures in
-    let ey = back (y q) ∙ q.component2.ensures in
-    let ez = back (z p) ∙ p.component3.ensures in
-    c.direction-ok.ensures ∙ (λ j. direction_ok (ex j) (ey j) (ez j))
+    let ex = back (x q.before) ∙ q.before.component-x.ensures in
+    let ey = back (y q) ∙ q.component-y.ensures in
+    let ez = back (z p) ∙ p.component-z.ensures in
+    c.direction_ok.ensures ∙ (λ j. direction_ok (ex j) (ey j) (ez j))
 
-component-requires : tie.Need-component-requires
+component-requires : tie.Need-component-x-requires
 component-requires c κs = search rules
 
-cast-x : tie.Need-overflow-cast-x
+cast-x : tie.Need-overflow_cast-x
 cast-x c = fits (x c)
 
-component-requires-2 : tie.Need-component-requires-2
+component-requires-2 : tie.Need-component-y-requires
 component-requires-2 c κs = search rules
 
-cast-y : tie.Need-overflow-cast-y
+cast-y : tie.Need-overflow_cast-y
 cast-y c = fits (y c)
 
-component-requires-3 : tie.Need-component-requires-3
+component-requires-3 : tie.Need-component-z-requires
 component-requires-3 c κs = search rules
 
-cast-z : tie.Need-overflow-cast-z
+cast-z : tie.Need-overflow_cast-z
 cast-z c = fits (z c)
 
-direction-ok-requires : tie.Need-direction-ok-requires
+direction-ok-requires : tie.Need-direction_ok-requires
 direction-ok-requires c κs = search rules
 
-returns : tie.Need-returns
-returns c = sym (direction-broken _ _ (sym (tested c.before) ∙ not-true _ c.if1.true))
+returns : tie.Need-returns-then-not-direction_ok
+returns c = sym (direction-broken _ _ (sym (tested c.before) ∙ c.if-not-direction_ok.true))
 
 magnitude-requires : tie.Need-magnitude-requires
 magnitude-requires c κs = search rules
 
-magnitude-ok-requires : tie.Need-magnitude-ok-requires
+magnitude-ok-requires : tie.Need-magnitude_ok-requires
 magnitude-ok-requires c κs = search rules
 
-returns-2 : tie.Need-returns-2
+returns-2 : tie.Need-returns
 returns-2 c =
     let m = c.before in
-    c.magnitude-ok.ensures ∙ ap magnitude_ok (kept w32 m.magnitude.type-inv m.magnitude.ensures)
-    ∙ sym (direction-kept _ _ (sym (tested m.before.before) ∙ not-false _ m.before.if1.false))
+    c.magnitude_ok.ensures ∙ ap magnitude_ok (kept w32 m.magnitude.type_inv m.magnitude.ensures)
+    ∙ sym (direction-kept _ _ (sym (tested m.before.before) ∙ m.before.if-not-direction_ok.false))
 
-pub star-ok-spec : {M : Type 1} → statement M
-star-ok-spec =
+pub star_ok_spec : {M : Type 1} → statement M
+star_ok_spec =
     tie.close
     (tie.spec
     component-requires

@@ -12,11 +12,11 @@ by e f = ap {B = ℕ} (λ (x : Bool). cond x 3 0) (sym f ∙ e)
 differ-requires : tie.Need-differ-requires
 differ-requires c κs = search rules
 
-returns : tie.Need-returns
-returns c = by {b = true} c.before.differ.ensures c.if1.true
+returns : tie.Need-returns-then-differ
+returns c = by {b = true} c.before.differ.ensures c.if-differ.true
 
-returns-2 : tie.Need-returns-2
-returns-2 c = by {b = false} c.before.differ.ensures c.if1.false
+returns-2 : tie.Need-returns
+returns-2 c = by {b = false} c.before.differ.ensures c.if-differ.false
 
-pub both-kind-spec : {M : Type 1} → statement M
-both-kind-spec = tie.close (tie.spec differ-requires returns returns-2)
+pub both_kind_spec : {M : Type 1} → statement M
+both_kind_spec = tie.close (tie.spec differ-requires returns returns-2)

@@ -23,20 +23,20 @@ records-requires c κs = search rules
 identity-requires : tie.Need-identity-requires
 identity-requires c κs = search rules
 
-cast-result : tie.Need-overflow-cast-result
+cast-result : tie.Need-overflow_cast-result
 cast-result c = search rules
 
-returns : tie.Need-returns
+returns : tie.Need-returns-then-i-records
 returns c =
     let t = c.before.before.before in
     let x = t.before.args in
     let h : x.i < records_in x.bytes.now = omega arith in
     (c.identity.ensures ∙ there x.bytes.now x.i h, (omega arith, (λ _. h), (λ _. omega arith)))
 
-returns-2 : tie.Need-returns-2
+returns-2 : tie.Need-returns
 returns-2 c =
     let x = c.before.before.before.args in
     (sym (next-behind x.bytes.now x.i (omega arith)), (omega arith, (λ l. absurd (omega arith)), (λ h. absurd (omega arith))))
 
-pub next-spec : {M : Type 1} → statement M
-next-spec = tie.close (tie.spec records-requires identity-requires cast-result returns returns-2)
+pub next_spec : {M : Type 1} → statement M
+next_spec = tie.close (tie.spec records-requires identity-requires cast-result returns returns-2)

@@ -31,19 +31,19 @@ says bytes i limit r t h e d = ap faint_mark (sym d ∙ ap (λ (z : ℤ). le_z z
 magnitude-requires : tie.Need-magnitude-requires
 magnitude-requires c κs = search rules
 
-returns : tie.Need-returns
+returns : tie.Need-returns-then-magnitude-limit
 returns c =
     let m = c.before in
     let s = m.before.before in
     says s.args.bytes.now s.args.i s.args.limit m.magnitude.result true s.requires m.magnitude.ensures
-    (tested_le (held {w = w32} m.magnitude.result m.magnitude.type-inv) (param s.ranges.limit) c.if1.true)
+    (tested_le (held {w = w32} m.magnitude.result m.magnitude.type_inv) (param s.ranges.limit) c.if-magnitude-limit.true)
 
-returns-2 : tie.Need-returns-2
+returns-2 : tie.Need-returns
 returns-2 c =
     let m = c.before in
     let s = m.before.before in
     says s.args.bytes.now s.args.i s.args.limit m.magnitude.result false s.requires m.magnitude.ensures
-    (tested_le (held {w = w32} m.magnitude.result m.magnitude.type-inv) (param s.ranges.limit) c.if1.false)
+    (tested_le (held {w = w32} m.magnitude.result m.magnitude.type_inv) (param s.ranges.limit) c.if-magnitude-limit.false)
 
-pub by-magnitude-spec : {M : Type 1} → statement M
-by-magnitude-spec = tie.close (tie.spec magnitude-requires returns returns-2)
+pub by_magnitude_spec : {M : Type 1} → statement M
+by_magnitude_spec = tie.close (tie.spec magnitude-requires returns returns-2)

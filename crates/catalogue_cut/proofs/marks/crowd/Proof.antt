@@ -21,52 +21,52 @@ use Rattle.catalogue_cut.proofs.marks.crowd.Reads as reads
 use Rattle.catalogue_cut.proofs.marks.crowd.Lts as lts
 use Rattle.catalogue_cut.proofs.marks.meets.Reads as meets-reads
 
-abbrev invariant-loop : tie.invariant-loop
+abbrev invariant-loop : tie.invariant-loop-b
 invariant-loop stars closeness a marks₀ star own₀ b₀ marks own b =
     (b ≤ a)
     × (length marks ≡ length marks₀)
     × ((bright : ℕ → Bool) → Judged bright stars (to_z w64 closeness) a marks₀ → Row bright stars (to_z w64 closeness) a b own marks)
 
-abbrev decreases-loop : tie.decreases-loop
+abbrev decreases-loop : tie.decreases-loop-b
 decreases-loop stars closeness a marks₀ star own₀ b₀ marks own b = a - b
 
 -- src/judge.rt:63:8
 -- the entry, from the place at which star a is read
-abbrev start : tie.After-triple-at invariant-loop decreases-loop → tie.Start invariant-loop decreases-loop
+abbrev start : tie.After-triple_at-star invariant-loop decreases-loop → tie.Start invariant-loop decreases-loop
 start c = c.before.before.before.before
 
 -- what is known of the pair, by the two stars' places
 met : (c : tie.After-meets invariant-loop decreases-loop)
-    → let l = c.before.before.before.loop in let x = (start c.before.before.before.before).args in
+    → let l = c.before.before.before.loop-b in let x = (start c.before.before.before.before).args in
     c.meets.result ≡ meets_by (to_z w64 (of_z w64 x.closeness)) (pair_dot x.stars.now x.a l.b) (get_or l.marks l.b 0)
 unfolding pair_dot
 met c =
-    let l = c.before.before.before.loop in
+    let l = c.before.before.before.loop-b in
     let t = c.before.before.before.before in
     let x = (start t).args in
-    c.meets.ensures ∙ (λ i. meets_by (to_z w64 (of_z w64 x.closeness)) (dot_of (t.triple-at.ensures i) (triple_at x.stars.now l.b))
+    c.meets.ensures ∙ (λ i. meets_by (to_z w64 (of_z w64 x.closeness)) (dot_of (t.triple_at-star.ensures i) (triple_at x.stars.now l.b))
     (get_or l.marks l.b 0))
 
-slice-read-if1 : tie.Need-slice-read-if1 invariant-loop decreases-loop
+slice-read-if1 : tie.Need-bounds-marks-a invariant-loop decreases-loop
 slice-read-if1 c = search rules
 
 -- src/judge.rt:64:9
-returns : tie.Need-returns invariant-loop decreases-loop
+returns : tie.Need-returns-then-marks-a-eq-FAINT invariant-loop decreases-loop
 returns c =
     let s = c.before.before.before in
-    λ bright J. judged-faint s.requires.1.0 J c.if1.true
+    λ bright J. judged-faint s.requires.1.0 J c.if-marks-a-eq-FAINT.true
 
 -- src/judge.rt:68:5
-triple-at-requires : tie.Need-triple-at-requires invariant-loop decreases-loop
+triple-at-requires : tie.Need-triple_at-star-requires invariant-loop decreases-loop
 triple-at-requires c κs = search rules
 
-loop-holds : tie.Need-loop-init invariant-loop decreases-loop
+loop-holds : tie.Need-loop-b-init invariant-loop decreases-loop
 loop-holds c =
     let s = start c in
-    (search rules, refl, (λ bright J. row-start s.pre.1.0 J c.before.if1.false))
+    (search rules, refl, (λ bright J. row-start s.requires.1.0 J c.before.if-marks-a-eq-FAINT.false))
 
 -- src/judge.rt:69:42
-slice-read-meets : tie.Need-slice-read-meets invariant-loop decreases-loop
+slice-read-meets : tie.Need-bounds-marks-b invariant-loop decreases-loop
 slice-read-meets c = search rules
 
 -- src/judge.rt:69:12
@@ -74,51 +74,51 @@ meets-requires : tie.Need-meets-requires invariant-loop decreases-loop
 meets-requires c κs =
     let t = c.before.before.before in
     let s = start t in
-    (s.pre.0, (rw t.triple-at.ensures (triple-within s.pre.0.near s.args.a), omega arith))
+    (s.requires.0, (rw t.triple_at-star.ensures (triple-within s.requires.0.near s.args.a), omega arith))
 
 -- src/judge.rt:70:13
-slice-write-marks : tie.Need-slice-write-marks invariant-loop decreases-loop
+slice-write-marks : tie.Need-bounds-marks-b-then-meets invariant-loop decreases-loop
 slice-write-marks c = search rules
 
 -- src/judge.rt:73:9
-add-b : tie.Need-overflow-add-b invariant-loop decreases-loop
+add-b : tie.Need-overflow_add-b invariant-loop decreases-loop
 add-b c = search rules
 
 -- src/judge.rt:68:5
-loop-less : tie.Need-loop-smaller invariant-loop decreases-loop
+loop-less : tie.Need-loop-b-smaller invariant-loop decreases-loop
 loop-less c = search rules
 
 -- src/judge.rt:68:5
-loop-again : tie.Need-loop-preserved invariant-loop decreases-loop
+loop-again : tie.Need-loop-b-preserved invariant-loop decreases-loop
 loop-again c =
     let m = c.before in
-    let l = m.before.before.before.loop in
+    let l = m.before.before.before.loop-b in
     let s = start m.before.before.before.before in
     let x = s.args in
     let e = sym (met m) in
     let h : l.b < x.a = omega arith in
     let n : l.b < length l.marks = omega arith in (
       omega arith,
-      ⊎_elim (λ w. ap length w.1 ∙ simp length-set l.invariant.1) (λ w. ap length w.1 ∙ l.invariant.1) c.if2.branch,
+      ⊎_elim (λ w. ap length w.1 ∙ simp length-set l.invariant.1) (λ w. ap length w.1 ∙ l.invariant.1) c.if-meets.branch,
       λ bright J.
           ⊎_elim
-          (λ w. row_as w.2 w.1 (row-met s.pre.1.0 h (l.invariant.2 bright J) n (e ∙ w.0.taken)))
-          (λ w. row_as w.2 w.1 (row_apart s.pre.1.0 h (l.invariant.2 bright J) (e ∙ w.0.left)))
-          c.if2.branch,
+          (λ w. row_as w.2 w.1 (row-met s.requires.1.0 h (l.invariant.2 bright J) n (e ∙ w.0.taken)))
+          (λ w. row_as w.2 w.1 (row_apart s.requires.1.0 h (l.invariant.2 bright J) (e ∙ w.0.left)))
+          c.if-meets.branch,
     )
 
 -- src/judge.rt:75:5
-slice-write-marks-2 : tie.Need-slice-write-marks-2 invariant-loop decreases-loop
+slice-write-marks-2 : tie.Need-bounds-marks-a-2 invariant-loop decreases-loop
 slice-write-marks-2 c = search rules
 
 -- src/judge.rt:58:1
-same_length : tie.Need-same-length invariant-loop decreases-loop
+same_length : tie.Need-shape_of-marks invariant-loop decreases-loop
 same_length c = search rules
 
 -- src/judge.rt:58:1
-returns-2 : tie.Need-returns-2 invariant-loop decreases-loop
+returns-2 : tie.Need-returns invariant-loop decreases-loop
 returns-2 c =
-    let l = c.before.loop in
+    let l = c.before.loop-b in
     let s = start c.before.before in
     let x = s.args in
     let z = to_z-of_z w64 x.closeness s.fits.closeness in
@@ -128,8 +128,8 @@ returns-2 c =
     let R = subst (λ (n : ℕ). Row bright x.stars.now (to_z w64 (of_z w64 x.closeness)) x.a n l.own l.marks) e (l.invariant.2 bright K) in
     subst (λ (v : ℤ). Judged bright x.stars.now v (x.a + 1) (set l.marks x.a l.own)) z (row_done (omega arith) R)
 
-pub crowd-spec : {M : Type 1} → statement M
-crowd-spec =
+pub crowd_spec : {M : Type 1} → statement M
+crowd_spec =
     tie.close
     (tie.spec
     invariant-loop

@@ -14,43 +14,43 @@ use Rattle.catalogue_cut.specs.marks.Marks.{Judged}
 use Rattle.catalogue_cut.proofs.marks.crowd_all.Statement.{statement}
 use Rattle.catalogue_cut.proofs.marks.crowd_all.Tie as tie
 
-abbrev invariant-loop : tie.invariant-loop
+abbrev invariant-loop : tie.invariant-loop-a
 invariant-loop stars closeness marks₀ total a₀ marks a =
     (a ≤ total)
     × (length marks ≡ length marks₀)
     × ((bright : ℕ → Bool) → Judged bright stars (to_z w64 closeness) 0 marks₀ → Judged bright stars (to_z w64 closeness) a marks)
 
-abbrev decreases-loop : tie.decreases-loop
+abbrev decreases-loop : tie.decreases-loop-a
 decreases-loop stars closeness marks₀ total a₀ marks a = total - a
 
-loop-holds : tie.Need-loop-init invariant-loop decreases-loop
+loop-holds : tie.Need-loop-a-init invariant-loop decreases-loop
 loop-holds c = (search rules, refl, (λ bright J. J))
 
 crowd-requires : tie.Need-crowd-requires invariant-loop decreases-loop
 crowd-requires c κs =
-    let l = c.before.before.loop in
+    let l = c.before.before.loop-a in
     let s = c.before.before.before.before in
     let m : triples s.args.stars.now ≤ length l.marks = omega arith in
     (s.requires.0, (omega arith, m))
 
-add_a : tie.Need-overflow-add-a invariant-loop decreases-loop
+add_a : tie.Need-overflow_add-a invariant-loop decreases-loop
 add_a c = search rules
 
-loop-less : tie.Need-loop-smaller invariant-loop decreases-loop
+loop-less : tie.Need-loop-a-smaller invariant-loop decreases-loop
 loop-less c = search rules
 
-loop-again : tie.Need-loop-preserved invariant-loop decreases-loop
+loop-again : tie.Need-loop-a-preserved invariant-loop decreases-loop
 loop-again c =
     let w = c.before.before.crowd in
-    let l = c.before.before.before.before.before.loop in
+    let l = c.before.before.before.before.before.loop-a in
     (omega arith, w.auto.1.1.1.0 ∙ l.invariant.1, (λ bright J. w.ensures bright (l.invariant.2 bright J)))
 
-same_length : tie.Need-same-length invariant-loop decreases-loop
+same_length : tie.Need-shape_of-marks invariant-loop decreases-loop
 same_length c = search rules
 
 returns : tie.Need-returns invariant-loop decreases-loop
 returns c =
-    let l = c.before.loop in
+    let l = c.before.loop-a in
     let s = c.before.before.before in
     let x = s.args in
     let z = to_z-of_z w64 x.closeness s.ranges.closeness in
@@ -60,8 +60,8 @@ returns c =
     let D = subst (λ (n : ℕ). Judged bright x.stars.now (to_z w64 (of_z w64 x.closeness)) n l.marks) e (l.invariant.2 bright K) in
     subst (λ (v : ℤ). Judged bright x.stars.now v (triples x.stars.now) l.marks) z D
 
-pub crowd-all-spec : {M : Type 1} → statement M
-crowd-all-spec =
+pub crowd_all_spec : {M : Type 1} → statement M
+crowd_all_spec =
     tie.close
     (tie.spec
     invariant-loop

@@ -20,44 +20,44 @@ use Rattle.catalogue_cut.proofs.marks.judge.Statement.{statement}
 use Rattle.catalogue_cut.proofs.marks.judge.Tie as tie
 
 -- the entry, from the place at which the stars are decoded and counted
-abbrev start : tie.After-records → tie.Start
+abbrev start : tie.After-records-end → tie.Start
 start c = c.before.before.before.before
 
 -- the part of the array that is handed on is the stars
-lent : (c : tie.After-records) → take (3 * c.records.result) c.before.stars.result ≡ stars_of (start c).args.bytes.now
-lent c = lent-stars _ _ _ c.before.stars.ensures c.records.ensures (start c).requires
+lent : (c : tie.After-records-end) → take (3 * c.records-end.result) c.before.stars-numbers.result ≡ stars_of (start c).args.bytes.now
+lent c = lent-stars _ _ _ c.before.stars-numbers.ensures c.records-end.ensures (start c).requires
 
-magnitudes-requires : tie.Need-magnitudes-requires
+magnitudes-requires : tie.Need-magnitudes-marks-requires
 magnitudes-requires c κs = search rules
 
-stars-requires : tie.Need-stars-requires
+stars-requires : tie.Need-stars-numbers-requires
 stars-requires c κs = search rules
 
-records-requires : tie.Need-records-requires
+records-requires : tie.Need-records-end-requires
 records-requires c κs = search rules
 
-mul-end : tie.Need-overflow-mul-end
+mul-end : tie.Need-overflow_mul-end
 mul-end c = search rules
 
-array-share-prefix-numbers : tie.Need-array-share-prefix-numbers
+array-share-prefix-numbers : tie.Need-slice_bounds-numbers-end
 array-share-prefix-numbers c = search rules
 
-slice-aggregate-crowd-all : tie.Need-slice-aggregate-crowd-all
+slice-aggregate-crowd-all : tie.Need-slice_bounds-crowd_all-end
 slice-aggregate-crowd-all c =
     let r = c.before in
-    sym (length-take-le _ _ (lent-within _ _ _ r.before.stars.ensures r.records.ensures (start r).requires))
+    sym (length-take-le _ _ (lent-within _ _ _ r.before.stars-numbers.ensures r.records-end.ensures (start r).requires))
 
-slice-aggregate-crowd-all-2 : tie.Need-slice-aggregate-crowd-all-2
+slice-aggregate-crowd-all-2 : tie.Need-slice_bounds-crowd_all-end-2
 slice-aggregate-crowd-all-2 c = search rules
 
-crowd-all-requires : tie.Need-crowd-all-requires
+crowd-all-requires : tie.Need-crowd_all-requires
 crowd-all-requires c κs =
     let r = c.before.before in
     let s = start r in
     let e = lent r in
-    let k : triples (take (3 * r.records.result) r.before.stars.result) ≤ length r.before.before.magnitudes.result =
-    omega (arith, ap length e, star-count s.args.bytes.now s.pre, s.pre.size.most) in
-    (subst (Listed 512) (sym e) (valid-listed s.args.bytes.now s.pre), k)
+    let k : triples (take (3 * r.records-end.result) r.before.stars-numbers.result) ≤ length r.before.before.magnitudes-marks.result =
+    omega (arith, ap length e, star-count s.args.bytes.now s.requires, s.requires.size.most) in
+    (subst (Listed 512) (sym e) (valid-listed s.args.bytes.now s.requires), k)
 
 returns : tie.Need-returns
 returns c =
@@ -68,13 +68,13 @@ returns c =
     let x = s.args in
     let y = to_z-of_z w32 x.limit s.fits.limit in
     let z = to_z-of_z w64 x.closeness s.fits.closeness in
-    all_settled x.bytes.now s.pre x.limit x.closeness m.result w.crowd-all.new.1.1.0
+    all_settled x.bytes.now s.requires x.limit x.closeness m.result w.crowd_all.new.1.1.0
     (λ k h. m.ensures k h ∙ ap (λ (v : ℤ). faint_mark (is_bright x.bytes.now v k)) y)
-    (subst (λ (v : ℤ). AllLooked (stars_of x.bytes.now) v m.result w.crowd-all.new.1.1.0) z
-    (subst (λ (l : List ℤ). AllLooked l (to_z w64 (of_z w64 x.closeness)) m.result w.crowd-all.new.1.1.0) (lent r) w.crowd-all.ensures))
+    (subst (λ (v : ℤ). AllLooked (stars_of x.bytes.now) v m.result w.crowd_all.new.1.1.0) z
+    (subst (λ (l : List ℤ). AllLooked l (to_z w64 (of_z w64 x.closeness)) m.result w.crowd_all.new.1.1.0) (lent r) w.crowd_all.ensures))
 
-pub judge-spec : {M : Type 1} → statement M
-judge-spec =
+pub judge_spec : {M : Type 1} → statement M
+judge_spec =
     tie.close
     (tie.spec
     magnitudes-requires

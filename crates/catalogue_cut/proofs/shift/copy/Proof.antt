@@ -11,42 +11,42 @@ use Rattle.catalogue_cut.specs.Shifted.{copied, copied_next, copied_all}
 use Rattle.catalogue_cut.proofs.shift.copy.Statement.{statement}
 use Rattle.catalogue_cut.proofs.shift.copy.Tie as tie
 
-abbrev invariant-loop : tie.invariant-loop
+abbrev invariant-loop : tie.invariant-loop-k
 invariant-loop bytes₀ i to from at k₀ bytes k = (k ≤ record_size) × (length bytes ≡ length bytes₀) × (bytes ≡ copied bytes₀ i to k)
 
-abbrev decreases-loop : tie.decreases-loop
+abbrev decreases-loop : tie.decreases-loop-k
 decreases-loop bytes₀ i to from at k₀ bytes k = record_size - k
 
-mul-from : tie.Need-overflow-mul-from invariant-loop decreases-loop
+mul-from : tie.Need-overflow_mul-from invariant-loop decreases-loop
 mul-from c = search rules
 
-mul_at : tie.Need-overflow-mul-at invariant-loop decreases-loop
+mul_at : tie.Need-overflow_mul-at invariant-loop decreases-loop
 mul_at c = search rules
 
-loop-holds : tie.Need-loop-init invariant-loop decreases-loop
+loop-holds : tie.Need-loop-k-init invariant-loop decreases-loop
 loop-holds c = (search rules, search rules, paste-zero c.args.bytes.now (record_size * c.args.to) (record_at c.args.bytes.now c.args.i))
 
-add-bytes : tie.Need-overflow-add-bytes invariant-loop decreases-loop
+add-bytes : tie.Need-overflow_add-bytes invariant-loop decreases-loop
 add-bytes c = search rules
 
-slice-read-bytes : tie.Need-slice-read-bytes invariant-loop decreases-loop
+slice-read-bytes : tie.Need-bounds-bytes-from invariant-loop decreases-loop
 slice-read-bytes c = search rules
 
-add-bytes-2 : tie.Need-overflow-add-bytes-2 invariant-loop decreases-loop
+add-bytes-2 : tie.Need-overflow_add-bytes-in-loop-k invariant-loop decreases-loop
 add-bytes-2 c = search rules
 
-slice-write-bytes : tie.Need-slice-write-bytes invariant-loop decreases-loop
+slice-write-bytes : tie.Need-bounds-bytes-at invariant-loop decreases-loop
 slice-write-bytes c = search rules
 
-add-k : tie.Need-overflow-add-k invariant-loop decreases-loop
+add-k : tie.Need-overflow_add-k invariant-loop decreases-loop
 add-k c = search rules
 
-loop-less : tie.Need-loop-smaller invariant-loop decreases-loop
+loop-less : tie.Need-loop-k-smaller invariant-loop decreases-loop
 loop-less c = search rules
 
-loop-again : tie.Need-loop-preserved invariant-loop decreases-loop
+loop-again : tie.Need-loop-k-preserved invariant-loop decreases-loop
 loop-again c =
-    let l = c.before.before.loop in
+    let l = c.before.before.loop-k in
     let s = c.before.before.before in
     let x = s.args in
     let from = record_size * x.i + l.k in (
@@ -56,12 +56,12 @@ loop-again c =
           ∙ copied_next x.bytes.now x.i x.to s.requires.0 s.requires.1 l.k (omega arith),
     )
 
-same_length : tie.Need-same-length invariant-loop decreases-loop
+same_length : tie.Need-shape_of-bytes invariant-loop decreases-loop
 same_length c = search rules
 
 returns : tie.Need-returns invariant-loop decreases-loop
 returns c =
-    let l = c.before.loop in
+    let l = c.before.loop-k in
     let s = c.before.before in
     let x = s.args in
     let e : l.k ≡ record_size = omega arith in

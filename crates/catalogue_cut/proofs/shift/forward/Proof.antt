@@ -12,53 +12,53 @@ use Rattle.catalogue_cut.specs.Shifted.{marked, Moved, moved-start, moved-next}
 use Rattle.catalogue_cut.proofs.shift.forward.Statement.{statement}
 use Rattle.catalogue_cut.proofs.shift.forward.Tie as tie
 
-abbrev invariant-loop : tie.invariant-loop
+abbrev invariant-loop : tie.invariant-loop-i
 invariant-loop bytes₀ marks total kept₀ i₀ bytes kept i = (i ≤ total) × (length bytes ≡ length bytes₀) × Moved bytes₀ marks i kept bytes
 
-abbrev decreases-loop : tie.decreases-loop
+abbrev decreases-loop : tie.decreases-loop-i
 decreases-loop bytes₀ marks total kept₀ i₀ bytes kept i = total - i
 
-records-requires : tie.Need-records-requires invariant-loop decreases-loop
+records-requires : tie.Need-records-total-requires invariant-loop decreases-loop
 records-requires c κs = search rules
 
-loop-holds : tie.Need-loop-init invariant-loop decreases-loop
+loop-holds : tie.Need-loop-i-init invariant-loop decreases-loop
 loop-holds c = (search rules, search rules, moved-start _ _)
 
-shared-slice-read-pass : tie.Need-shared-slice-read-pass invariant-loop decreases-loop
+shared-slice-read-pass : tie.Need-bounds-marks-i invariant-loop decreases-loop
 shared-slice-read-pass c = search rules
 
-pass-requires : tie.Need-pass-requires invariant-loop decreases-loop
+pass-requires : tie.Need-pass-kept-requires invariant-loop decreases-loop
 pass-requires c κs =
-    let l = c.before.before.before.loop in
+    let l = c.before.before.before.loop-i in
     let h : l.i < records_in l.bytes = omega arith in
     (l.invariant.2.few, h)
 
-add-i : tie.Need-overflow-add-i invariant-loop decreases-loop
+add-i : tie.Need-overflow_add-i invariant-loop decreases-loop
 add-i c = search rules
 
-loop-less : tie.Need-loop-smaller invariant-loop decreases-loop
+loop-less : tie.Need-loop-i-smaller invariant-loop decreases-loop
 loop-less c = search rules
 
-loop-again : tie.Need-loop-preserved invariant-loop decreases-loop
+loop-again : tie.Need-loop-i-preserved invariant-loop decreases-loop
 loop-again c =
     let w = c.before.before.pass in
-    let l = c.before.before.before.before.before.before.loop in
+    let l = c.before.before.before.before.before.before.loop-i in
     (omega arith, w.auto.0 ∙ l.invariant.1, moved-next l.invariant.2 (omega arith) w.ensures.0 w.ensures.1)
 
-same_length : tie.Need-same-length invariant-loop decreases-loop
+same_length : tie.Need-shape_of-bytes invariant-loop decreases-loop
 same_length c = search rules
 
 returns : tie.Need-returns invariant-loop decreases-loop
 returns c =
-    let l = c.before.loop in
+    let l = c.before.loop-i in
     let x = c.before.before.before.before.before.before.args in
     let e : l.i ≡ records_in x.bytes.now = omega arith in (
       l.invariant.2.is ∙ ap (λ (n : ℕ). length (marked x.marks.now n)) e,
       l.invariant.2.front ∙ ap (λ (n : ℕ). at_front (records_at x.bytes.now (marked x.marks.now n)) x.bytes.now) e,
     )
 
-pub forward-spec : {M : Type 1} → statement M
-forward-spec =
+pub forward_spec : {M : Type 1} → statement M
+forward_spec =
     tie.close
     (tie.spec
     invariant-loop

@@ -22,26 +22,26 @@ by-mark : (bytes : List ℕ) (i kept r : ℕ) (after : List ℕ) (t : Bool) (mar
 by-mark bytes i kept r after t mark e a b =
     (a ∙ ap (λ (q : Bool). kept + one q) e, b ∙ ap (λ (q : Bool). sets bytes (record_size * kept) (pick q (record_at bytes i) [])) e)
 
-returns : tie.Need-returns
+returns : tie.Need-returns-then-mark-ne-KEPT
 returns c =
     let x = c.before.before.args in
-    by-mark x.bytes.now x.i x.kept x.kept x.bytes.now false x.mark (sym (ne_eqb x.mark 0 c.if1.true)) (omega arith) refl
+    by-mark x.bytes.now x.i x.kept x.kept x.bytes.now false x.mark (sym (ne_eqb x.mark 0 c.if-mark-ne-KEPT.true)) (omega arith) refl
 
 copy-requires : tie.Need-copy-requires
 copy-requires c κs = search rules
 
-add-result : tie.Need-overflow-add-result
+add-result : tie.Need-overflow_add-result
 add-result c = search rules
 
-same_length : tie.Need-same-length
+same_length : tie.Need-shape_of-bytes
 same_length c = search rules
 
-returns-2 : tie.Need-returns-2
+returns-2 : tie.Need-returns
 returns-2 c =
     let w = c.before.before in
     let t = w.before.before in
     let x = t.before.before.args in
-    by-mark x.bytes.now x.i x.kept (x.kept + 1) w.copy.new.0 true x.mark (sym (eq-eqb x.mark 0 t.if1.false)) refl w.copy.ensures
+    by-mark x.bytes.now x.i x.kept (x.kept + 1) w.copy.new.0 true x.mark (sym (eq-eqb x.mark 0 t.if-mark-ne-KEPT.false)) refl w.copy.ensures
 
 pub pass_spec : {M : Type 1} → statement M
 pass_spec = tie.close (tie.spec returns copy-requires add-result same_length returns-2)

@@ -6,16 +6,16 @@ use Rattle.catalogue_index.specs.IndexSteps.{collected-none, length-next, pairs-
 use Rattle.catalogue_index.proofs.fill.count.Statement.{statement}
 use Rattle.catalogue_index.proofs.fill.count.Tie as tie
 
-abbrev invariant-loop : tie.invariant-loop
+abbrev invariant-loop : tie.invariant-loop-b
 invariant-loop stars floor total found₀ b₀ found b = (b ≤ total) × (found ≡ length (collected b (row_of stars floor)))
 
-abbrev decreases-loop : tie.decreases-loop
+abbrev decreases-loop : tie.decreases-loop-b
 decreases-loop stars floor total found₀ b₀ found b = total - b
 
-loop-holds : tie.Need-loop-init invariant-loop decreases-loop
+loop-holds : tie.Need-loop-b-init invariant-loop decreases-loop
 loop-holds c = (search rules, collected-none _)
 
-count-row-requires : tie.Need-count-row-requires invariant-loop decreases-loop
+count-row-requires : tie.Need-count_row-found-requires invariant-loop decreases-loop
 count-row-requires c κs = search rules
 
 -- how many there can be
@@ -23,34 +23,34 @@ few : (stars : List ℤ) (floor n : ℕ) → n ≤ 512 → length (collected n (
 unfolding pairs_of
 few stars floor n h = omega (arith, pairs-most stars floor n h)
 
-add-found : tie.Need-overflow-add-found invariant-loop decreases-loop
+add-found : tie.Need-overflow_add-found invariant-loop decreases-loop
 add-found c =
     let l = c.before.before in
     let x = l.before.args in
     omega (
       arith,
       l.before.requires.few,
-      c.count-row.ensures,
-      length-next (row_of x.stars.now x.floor) l.loop.b,
-      few x.stars.now x.floor (l.loop.b + 1) (omega (arith, l.before.requires.few)),
+      c.count_row-found.ensures,
+      length-next (row_of x.stars.now x.floor) l.loop-b.b,
+      few x.stars.now x.floor (l.loop-b.b + 1) (omega (arith, l.before.requires.few)),
     )
 
-add-b : tie.Need-overflow-add-b invariant-loop decreases-loop
+add-b : tie.Need-overflow_add-b invariant-loop decreases-loop
 add-b c = search rules
 
-loop-less : tie.Need-loop-smaller invariant-loop decreases-loop
+loop-less : tie.Need-loop-b-smaller invariant-loop decreases-loop
 loop-less c = search rules
 
-loop-again : tie.Need-loop-preserved invariant-loop decreases-loop
+loop-again : tie.Need-loop-b-preserved invariant-loop decreases-loop
 loop-again c =
     let l = c.before.before in
     let x = l.before.args in
-    (omega arith, omega (arith, c.count-row.ensures, length-next (row_of x.stars.now x.floor) l.loop.b))
+    (omega arith, omega (arith, c.count_row-found.ensures, length-next (row_of x.stars.now x.floor) l.loop-b.b))
 
 returns : tie.Need-returns invariant-loop decreases-loop
 unfolding pairs_of
 returns c =
-    let l = c.before.loop in
+    let l = c.before.loop-b in
     let x = c.before.before.args in
     let e : l.b ≡ triples x.stars.now = omega arith in (
       l.invariant.1 ∙ ap (λ (n : ℕ). length (collected n (row_of x.stars.now x.floor))) e,

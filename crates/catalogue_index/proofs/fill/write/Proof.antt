@@ -8,20 +8,20 @@ use Rattle.catalogue_index.specs.GrownLaws.{grown-empty, grown-next, grown-all}
 use Rattle.catalogue_index.proofs.fill.write.Statement.{statement}
 use Rattle.catalogue_index.proofs.fill.write.Tie as tie
 
-abbrev invariant-loop : tie.invariant-loop
+abbrev invariant-loop : tie.invariant-loop-b
 invariant-loop stars floor room₀ total next₀ b₀ room next b =
     (b ≤ total)
     × (length room ≡ length room₀)
     × (next ≡ 0 + length (collected b (row_of stars floor)))
     × Grown 0 (collected b (row_of stars floor)) room₀ room
 
-abbrev decreases-loop : tie.decreases-loop
+abbrev decreases-loop : tie.decreases-loop-b
 decreases-loop stars floor room₀ total next₀ b₀ room next b = total - b
 
-loop-holds : tie.Need-loop-init invariant-loop decreases-loop
+loop-holds : tie.Need-loop-b-init invariant-loop decreases-loop
 loop-holds c = (search rules, refl, none_more _ 0, grown-empty _ _ _)
 
-write-row-requires : tie.Need-write-row-requires invariant-loop decreases-loop
+write-row-requires : tie.Need-write_row-next-requires invariant-loop decreases-loop
 unfolding pairs_of
 write-row-requires c κs =
     let l = c.before.before in
@@ -30,33 +30,33 @@ write-row-requires c κs =
     let f = row_of x.stars.now x.floor in
     let n = triples x.stars.now in
     let r : 12 * length (collected n f) ≤ length x.room.now = s.requires.1 in
-    (s.requires.0, (omega arith, omega (arith, length-next f l.loop.b, collected-part f (l.loop.b + 1) n (omega arith))))
+    (s.requires.0, (omega arith, omega (arith, length-next f l.loop-b.b, collected-part f (l.loop-b.b + 1) n (omega arith))))
 
-add-b : tie.Need-overflow-add-b invariant-loop decreases-loop
+add-b : tie.Need-overflow_add-b invariant-loop decreases-loop
 add-b c = search rules
 
-loop-less : tie.Need-loop-smaller invariant-loop decreases-loop
+loop-less : tie.Need-loop-b-smaller invariant-loop decreases-loop
 loop-less c = search rules
 
-loop-again : tie.Need-loop-preserved invariant-loop decreases-loop
+loop-again : tie.Need-loop-b-preserved invariant-loop decreases-loop
 loop-again c =
-    let w = c.before.before.write-row in
+    let w = c.before.before.write_row-next in
     let l = c.before.before.before.before.before in
     let x = l.before.before.args in
     let f = row_of x.stars.now x.floor in (
       omega arith,
-      w.auto.1.1.1.0 ∙ l.loop.invariant.1,
-      omega (arith, w.ensures.0, length-next f l.loop.b),
-      grown-next f l.loop.b l.loop.invariant.3 l.loop.invariant.2 w.ensures.1,
+      w.auto.1.1.1.0 ∙ l.loop-b.invariant.1,
+      omega (arith, w.ensures.0, length-next f l.loop-b.b),
+      grown-next f l.loop-b.b l.loop-b.invariant.3 l.loop-b.invariant.2 w.ensures.1,
     )
 
-same_length : tie.Need-same-length invariant-loop decreases-loop
+same_length : tie.Need-shape_of-room invariant-loop decreases-loop
 same_length c = search rules
 
 returns : tie.Need-returns invariant-loop decreases-loop
 unfolding pairs_of
 returns c =
-    let l = c.before.loop in
+    let l = c.before.loop-b in
     let x = c.before.before.before.args in
     let f = row_of x.stars.now x.floor in
     let e : l.b ≡ triples x.stars.now = omega arith in

@@ -9,25 +9,25 @@ use Rattle.catalogue_index.proofs.fill.write_pair.Statement.{statement}
 use Rattle.catalogue_index.proofs.fill.write_pair.Tie as tie
 
 -- the pair has a record
-has-entry : (c : tie.Else1) → let x = c.before.before.before.args in entry_of x.stars.now x.floor x.b x.a ≡ key_of x.stars.now x.a x.b
+has-entry : (c : tie.Else-product-floor) → let x = c.before.before.before.args in entry_of x.stars.now x.floor x.b x.a ≡ key_of x.stars.now x.a x.b
     ∷ []
 has-entry c =
     let x = c.before.before.before.args in
-    entry-taken x.stars.now x.floor x.b x.a (omega (arith, c.before.product.ensures))
+    entry-taken x.stars.now x.floor x.b x.a (omega (arith, c.before.product-product.ensures))
 
 key-is : (c : tie.After-ends)
-    → let x = c.before.before.before.before.before.args in key_from c.before.before.before.product.result c.ends.result
+    → let x = c.before.before.before.before.before.args in key_from c.before.before.before.product-product.result c.ends.result
     ≡ key_of x.stars.now x.a x.b
 unfolding key_of
-key-is c = λ i. key_from (c.before.before.before.product.ensures i) (c.ends.ensures i)
+key-is c = λ i. key_from (c.before.before.before.product-product.ensures i) (c.ends.ensures i)
 
-product-requires : tie.Need-product-requires
+product-requires : tie.Need-product-product-requires
 product-requires c κs = search rules
 
-returns : tie.Need-returns
+returns : tie.Need-returns-then-product-floor
 returns c =
     let x = c.before.before.before.args in
-    let e = entry-left x.stars.now x.floor x.b x.a (omega (arith, c.before.product.ensures)) in
+    let e = entry-left x.stars.now x.floor x.b x.a (omega (arith, c.before.product-product.ensures)) in
     (rw e (omega arith), rw e (grown-none _ _))
 
 ends-requires : tie.Need-ends-requires
@@ -36,13 +36,13 @@ ends-requires c κs = search rules
 put-requires : tie.Need-put-requires
 put-requires c κs = omega (arith, ap length (has-entry c.before.before))
 
-add-result : tie.Need-overflow-add-result
+add-result : tie.Need-overflow_add-result
 add-result c = search rules
 
-same_length : tie.Need-same-length
+same_length : tie.Need-shape_of-room
 same_length c = search rules
 
-returns-2 : tie.Need-returns-2
+returns-2 : tie.Need-returns
 returns-2 c =
     let w = c.before.before.put in
     let f = c.before.before.before.before.before in
@@ -53,7 +53,7 @@ returns-2 c =
     let g = grown-one x.at (key_of x.stars.now x.a x.b) x.room.now (omega arith) in
     (rw e (omega arith), rw (e, w.ensures ∙ ap (λ (k : ℕ). sets x.room.now (12 * x.at) (record_of k)) (key-is c.before.before.before)) g)
 
-pub write-pair-spec : {M : Type 1} → statement M
-write-pair-spec =
+pub write_pair_spec : {M : Type 1} → statement M
+write_pair_spec =
     tie.close
     (tie.spec product-requires returns ends-requires put-requires add-result same_length returns-2)

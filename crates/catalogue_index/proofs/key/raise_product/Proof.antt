@@ -17,20 +17,20 @@ small s = omega (arith, s.requires.within)
 half_is : (s : tie.Start) → (half s).z ≡ pos (raised s.args.p - 4611686018427387904)
 half_is s = lifted s.args.p (small s)
 
-add-result : tie.Need-overflow-add-result
+add-result : tie.Need-overflow_add-result
 add-result c = fits (half c)
 
-cast-result : tie.Need-overflow-cast-result
+cast-result : tie.Need-overflow_cast-result
 cast-result c = unsigned (half c) (subst (λ (z : ℤ). T (non_neg z)) (sym (half_is c)) tt) tt
 
 size : (s : tie.Start) → nat_abs (half s).z + 4611686018427387904 ≡ raised s.args.p
 size s = ap (λ (z : ℤ). nat_abs z + 4611686018427387904) (half_is s) ∙ omega (arith, lifted-least s.args.p (small s))
 
-add-result-2 : tie.Need-overflow-add-result-2
+add-result-2 : tie.Need-overflow_add-result-2
 add-result-2 c = omega (arith, ap nat_abs (back (half c)), (half c).size.within)
 
 returns : tie.Need-returns
 returns c = ap (λ (z : ℤ). nat_abs z + 4611686018427387904) (back (half c)) ∙ size c
 
-pub raise-product-spec : {M : Type 1} → statement M
-raise-product-spec = tie.close (tie.spec add-result cast-result add-result-2 returns)
+pub raise_product_spec : {M : Type 1} → statement M
+raise_product_spec = tie.close (tie.spec add-result cast-result add-result-2 returns)

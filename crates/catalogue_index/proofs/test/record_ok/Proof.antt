@@ -6,35 +6,35 @@ use Rattle.catalogue_index.specs.CheckLaws.{says-yes, says-no}
 use Rattle.catalogue_index.proofs.test.record_ok.Statement.{statement}
 use Rattle.catalogue_index.proofs.test.record_ok.Tie as tie
 
-pair-ok-requires : tie.Need-pair-ok-requires
+pair-ok-requires : tie.Need-pair_ok-requires
 pair-ok-requires c κs = search rules
 
-returns : tie.Need-returns
-returns c = let p = c.before.pair_ok in says-no (λ r. p.ensures.fails (not-true p.result c.if1.true) r.pair)
+returns : tie.Need-returns-then-not-pair_ok
+returns c = let p = c.before.pair_ok in says-no (λ r. p.ensures.fails (not-true p.result c.if-not-pair_ok.true) r.pair)
 
-high-from-requires : tie.Need-high-from-requires
+high-from-requires : tie.Need-high_from-requires
 high-from-requires c κs = search rules
 
 less-requires : tie.Need-less-requires
 less-requires c κs = search rules
 
-returns-2 : tie.Need-returns-2
+returns-2 : tie.Need-returns-then-not-less
 returns-2 c =
     let k = c.before.less in
-    let t = c.before.before.high-from in
+    let t = c.before.before.high_from in
     let x = c.before.before.before.before.before.args in
-    let l = ltb-false (key_from x.before-high x.before-low) (key_from t.result x.low) (sym k.ensures ∙ not-true k.result c.if2.true) in
+    let l = ltb-false (key_from x.before-high x.before-low) (key_from t.result x.low) (sym k.ensures ∙ not-true k.result c.if-not-less.true) in
     says-no (λ r. omega (arith, r.rises, t.ensures))
 
-returns-3 : tie.Need-returns-3
+returns-3 : tie.Need-returns
 returns-3 c =
     let k = c.before.less in
-    let t = c.before.before.high-from in
+    let t = c.before.before.high_from in
     let p = c.before.before.before.before.pair_ok in
     let x = c.before.before.before.before.before.args in
-    let l = ltb-true (key_from x.before-high x.before-low) (key_from t.result x.low) (sym k.ensures ∙ not-false k.result c.if2.false) in
-    says-yes (record { pair = p.ensures.holds (not-false p.result c.before.before.before.if1.false); rises = omega (arith, l, t.ensures) })
+    let l = ltb-true (key_from x.before-high x.before-low) (key_from t.result x.low) (sym k.ensures ∙ not-false k.result c.if-not-less.false) in
+    says-yes (record { pair = p.ensures.holds (not-false p.result c.before.before.before.if-not-pair_ok.false); rises = omega (arith, l, t.ensures) })
 
-pub record-ok-spec : {M : Type 1} → statement M
-record-ok-spec =
+pub record_ok_spec : {M : Type 1} → statement M
+record_ok_spec =
     tie.close (tie.spec pair-ok-requires returns high-from-requires less-requires returns-2 returns-3)

@@ -6,19 +6,19 @@ use Rattle.chain.specs.ToldLaws.{admit-told}
 use Rattle.chain.proofs.admit.outcome.Statement.{statement}
 use Rattle.chain.proofs.admit.outcome.Tie as tie
 
-demand-outcome-requires : tie.Need-demand-outcome-requires
+demand-outcome-requires : tie.Need-demand_outcome-demand-requires
 demand-outcome-requires c κs = search rules
 
-otherwise-requires : tie.Need-otherwise-requires
+otherwise-requires : tie.Need-otherwise-catalogue-requires
 otherwise-requires c κs = search rules
 
-settings-outcome-requires : tie.Need-settings-outcome-requires
+settings-outcome-requires : tie.Need-settings_outcome-requires
 settings-outcome-requires c κs = search rules
 
-otherwise-requires-2 : tie.Need-otherwise-requires-2
+otherwise-requires-2 : tie.Need-otherwise-camera-requires
 otherwise-requires-2 c κs = search rules
 
-otherwise-requires-3 : tie.Need-otherwise-requires-3
+otherwise-requires-3 : tie.Need-otherwise-requires
 otherwise-requires-3 c κs = search rules
 
 returns : tie.Need-returns
@@ -28,12 +28,12 @@ returns c =
     let o1 = camera.before in
     let demand = o1.before in
     let a = demand.before.args in
-    let inner = o1.otherwise.ensures ∙ ap (otherwise a.stars) demand.demand-outcome.ensures in
+    let inner = o1.otherwise-catalogue.ensures ∙ ap (otherwise a.stars) demand.demand_outcome-demand.ensures in
     admit-told a.frame a.stars a.settings a.words a.count
-    (c.otherwise3.ensures ∙ ap (otherwise a.frame) (o2.otherwise2.ensures ∙ (λ i. otherwise (camera.settings-outcome.ensures i) (inner i))))
+    (c.otherwise.ensures ∙ ap (otherwise a.frame) (o2.otherwise-camera.ensures ∙ (λ i. otherwise (camera.settings_outcome.ensures i) (inner i))))
 
-pub outcome-spec : {M : Type 1} → statement M
-outcome-spec =
+pub outcome_spec : {M : Type 1} → statement M
+outcome_spec =
     tie.close
     (tie.spec
     demand-outcome-requires

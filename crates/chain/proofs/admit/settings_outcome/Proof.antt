@@ -11,50 +11,50 @@ use Rattle.chain.specs.AdmitLaws.{lens-refused, settings-refused, settings-passe
 use Rattle.chain.proofs.admit.settings_outcome.Statement.{statement}
 use Rattle.chain.proofs.admit.settings_outcome.Tie as tie
 
-abbrev start : tie.After-position-ok → tie.Start
+abbrev start : tie.After-position_ok → tie.Start
 start c = c.before.before.before.before.before
 
-lens-in : (c : tie.Else1) → lens_ok c.before.before.args.settings.lens ≡ true
-lens-in c = sym c.before.lens-ok.ensures ∙ not-false _ c.if1.false
+lens-in : (c : tie.Else-not-lens_ok) → lens_ok c.before.before.args.settings.lens ≡ true
+lens-in c = sym c.before.lens_ok.ensures ∙ not-false _ c.if-not-lens_ok.false
 
-centre-is : (c : tie.After-position-ok) → c.position-ok.result ≡ position_ok (start c).args.settings.cx (start c).args.settings.cy
+centre-is : (c : tie.After-position_ok) → c.position_ok.result ≡ position_ok (start c).args.settings.cx (start c).args.settings.cy
 centre-is c =
     let s = (start c).args.settings in
-    let g = c.before.struct-told2.given in
+    let g = c.before.struct_told-2-1.given in
     let u = back (held {w = w64} s.cx g.1.1.1.1.0.1) in
     let v = back (held {w = w64} s.cy g.1.1.1.1.1.0.1) in
-    c.position-ok.ensures ∙ (λ i. position_ok (u i) (v i))
+    c.position_ok.ensures ∙ (λ i. position_ok (u i) (v i))
 
-lens-ok-requires : tie.Need-lens-ok-requires
+lens-ok-requires : tie.Need-lens_ok-requires
 lens-ok-requires c κs = search rules
 
 plain-requires : tie.Need-plain-requires
 plain-requires c κs = search rules
 
-returns : tie.Need-returns
+returns : tie.Need-returns-then-not-lens_ok
 returns c =
     let o = c.before.before in
-    c.plain.ensures ∙ sym (lens-refused o.before.args.settings (sym o.lens-ok.ensures ∙ not-true _ c.before.if1.true))
+    c.plain.ensures ∙ sym (lens-refused o.before.args.settings (sym o.lens_ok.ensures ∙ not-true _ c.before.if-not-lens_ok.true))
 
-position-ok-requires : tie.Need-position-ok-requires
+position-ok-requires : tie.Need-position_ok-requires
 position-ok-requires c κs = search rules
 
-plain-requires-2 : tie.Need-plain-requires-2
+plain-requires-2 : tie.Need-plain-requires-then-not-position_ok
 plain-requires-2 c κs = search rules
 
-returns-2 : tie.Need-returns-2
+returns-2 : tie.Need-returns-then-not-position_ok
 returns-2 c =
     let o = c.before.before in
-    c.plain2.ensures
-    ∙ sym (settings-refused (start o).args.settings (lens-in o.before.before.before) (sym (centre-is o) ∙ not-true _ c.before.if2.true))
+    c.plain-then-not-position_ok.ensures
+    ∙ sym (settings-refused (start o).args.settings (lens-in o.before.before.before) (sym (centre-is o) ∙ not-true _ c.before.if-not-position_ok.true))
 
-returns-3 : tie.Need-returns-3
+returns-3 : tie.Need-returns
 returns-3 c =
     let o = c.before in
-    sym (settings-passed (start o).args.settings (lens-in o.before.before.before) (sym (centre-is o) ∙ not-false _ c.if2.false))
+    sym (settings-passed (start o).args.settings (lens-in o.before.before.before) (sym (centre-is o) ∙ not-false _ c.if-not-position_ok.false))
 
-pub settings-outcome-spec : {M : Type 1} → statement M
-settings-outcome-spec =
+pub settings_outcome_spec : {M : Type 1} → statement M
+settings_outcome_spec =
     tie.close
     (tie.spec
     lens-ok-requires

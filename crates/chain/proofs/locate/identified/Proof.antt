@@ -23,43 +23,43 @@ words_are : (r : tie.After-records) → (start r).args.report.count * r.records.
 words_are r = ap (λ (n : ℕ). (start r).args.report.count * n) r.records.ensures
 
 room-long : (r : tie.After-records) → (start r).args.report.count * r.records.result ≤ length (start r).args.room.now
-room-long r = let s = start r in omega (arith, ap length s.pre.ranked, words_are r, laws.room-long _ _ _ _ s.pre.ready)
+room-long r = let s = start r in omega (arith, ap length s.requires.ranked, words_are r, laws.room-long _ _ _ _ s.requires.ready)
 
 ranking-is : (r : tie.After-records) → let s = start r in take (s.args.report.count * r.records.result) s.args.room.now
     ≡ our_ranking s.args.report s.args.bytes.now s.args.settings
-ranking-is r = let s = start r in (λ i. take (words_are r i) (s.pre.ranked i)) ∙ laws.room-front _ _ _ _ s.pre.ready
+ranking-is r = let s = start r in (λ i. take (words_are r i) (s.requires.ranked i)) ∙ laws.room-front _ _ _ _ s.requires.ready
 
-found : (f : tie.After-search) → let s = start f.before.before in
+found : (f : tie.After-search-found) → let s = start f.before.before in
     Identified (sights_of s.args.report s.args.bytes.now s.args.settings) s.args.bytes.now s.args.settings.needed
     s.args.settings.tolerance
-    (our_ranking s.args.report s.args.bytes.now s.args.settings) f.search.result
+    (our_ranking s.args.report s.args.bytes.now s.args.settings) f.search-found.result
 found f =
     let r = f.before.before in
     let a = (start r).args in
     subst (λ (ds : List ℤ). Identified ds a.bytes.now a.settings.needed a.settings.tolerance (our_ranking a.report a.bytes.now a.settings)
-    f.search.result) (start r).requires.sights
-    (subst (λ (ws : List ℕ). Identified a.directions.now a.bytes.now a.settings.needed a.settings.tolerance ws f.search.result)
-    (ranking-is r) f.search.ensures.0)
+    f.search-found.result) (start r).requires.sights
+    (subst (λ (ws : List ℕ). Identified a.directions.now a.bytes.now a.settings.needed a.settings.tolerance ws f.search-found.result)
+    (ranking-is r) f.search-found.ensures.0)
 
 -- ---- the needs
 
 records-requires : tie.Need-records-requires
 records-requires c κs = search rules
 
-mul_words : tie.Need-overflow-mul-words
+mul_words : tie.Need-overflow_mul-words
 mul_words c = omega (arith, words_are c, laws.words-most _ _ _ _ (start c).requires.ready)
 
-slice-aggregate-search : tie.Need-slice-aggregate-search
+slice-aggregate-search : tie.Need-slice_bounds-search-end
 slice-aggregate-search c = sym (length-take-le _ _ (room-long c.before))
 
-search-requires : tie.Need-search-requires
+search-requires : tie.Need-search-found-requires
 search-requires c κs = search rules
 
 settle-requires : tie.Need-settle-requires
 settle-requires c κs =
     let s = start c.before.before in
-    subst (λ (ds : List ℤ). Settles ds s.args.bytes.now c.search.result) (sym s.pre.sights)
-    (laws.our-settles _ _ _ _ s.pre.ready c.search.result (found c))
+    subst (λ (ds : List ℤ). Settles ds s.args.bytes.now c.search-found.result) (sym s.requires.sights)
+    (laws.our-settles _ _ _ _ s.requires.ready c.search-found.result (found c))
 
 returns : tie.Need-returns
 unfolding located_of
@@ -67,18 +67,18 @@ returns c =
     let f = c.before in
     let s = start f.before.before in
     let a = s.args in
-    let e = c.settle.ensures ∙ ap (λ (ds : List ℤ). settled_of a.report ds a.bytes.now f.search.result) s.pre.sights in
-    let sought = laws.our-search _ _ _ _ s.pre.ready f.search.result (found f) in (
+    let e = c.settle.ensures ∙ ap (λ (ds : List ℤ). settled_of a.report ds a.bytes.now f.search-found.result) s.requires.sights in
+    let sought = laws.our-search _ _ _ _ s.requires.ready f.search-found.result (found f) in (
       e ∙ ap (settled_of a.report (sights_of a.report a.bytes.now a.settings) a.bytes.now)
-          (laws.identification-is _ _ _ _ s.pre.ready f.search.result (found f)),
+          (laws.identification-is _ _ _ _ s.requires.ready f.search-found.result (found f)),
       record {
-        first = settled-named _ _ _ f.search.result c.settle.result e _ _ sought.first;
-        none = settled-none _ _ _ f.search.result c.settle.result e _ _ sought.first;
+        first = settled-named _ _ _ f.search-found.result c.settle.result e _ _ sought.first;
+        none = settled-none _ _ _ f.search-found.result c.settle.result e _ _ sought.first;
       },
     )
 
-pub identified-spec : {M : Type 1} → statement M
-identified-spec =
+pub identified_spec : {M : Type 1} → statement M
+identified_spec =
     tie.close
     (tie.spec
     records-requires

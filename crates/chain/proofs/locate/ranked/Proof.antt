@@ -16,77 +16,77 @@ use Rattle.chain.proofs.locate.ranked.Tie as tie
 
 -- ---- what each place knows
 
-abbrev start : tie.After-take-sights → tie.Start
+abbrev start : tie.After-take_sights-sighting → tie.Start
 start t = search rules
 
-abbrev whole : tie.After-take-sights → Call
+abbrev whole : tie.After-take_sights-sighting → Call
 whole t = let a = (start t).args in call a.samples.now a.catalogue.now a.settings a.room.now
 
-sighted-is : (t : tie.After-take-sights) → t.take-sights.result ≡ sighted (whole t)
+sighted-is : (t : tie.After-take_sights-sighting) → t.take_sights-sighting.result ≡ sighted (whole t)
 sighted-is t =
-    t.take-sights.ensures
-    ∙ ap (λ (o : Outcome). sighting_of (whole t).samples o (whole t).settings (length (whole t).room)) t.before.catalogue-outcome.ensures.0
+    t.take_sights-sighting.ensures
+    ∙ ap (λ (o : Outcome). sighting_of (whole t).samples o (whole t).settings (length (whole t).room)) t.before.catalogue_outcome-stars.ensures.0
 
-lent : (t : tie.After-take-sights) → Lent t.take-sights.result.report t.take-sights.result.directions (whole t).catalogue (whole t).settings
-lent t = sighted-lent (whole t) t.take-sights.result (sighted-is t)
+lent : (t : tie.After-take_sights-sighting) → Lent t.take_sights-sighting.result.report t.take_sights-sighting.result.directions (whole t).catalogue (whole t).settings
+lent t = sighted-lent (whole t) t.take_sights-sighting.result (sighted-is t)
 
 -- ---- the needs
 
-catalogue-outcome-requires : tie.Need-catalogue-outcome-requires
+catalogue-outcome-requires : tie.Need-catalogue_outcome-stars-requires
 catalogue-outcome-requires c κs = search rules
 
-take-sights-requires : tie.Need-take-sights-requires
+take-sights-requires : tie.Need-take_sights-sighting-requires
 take-sights-requires c κs = search rules
 
-mul-end : tie.Need-overflow-mul-end
+mul-end : tie.Need-overflow_mul-end
 mul-end c =
-    let t : tie.After-take-sights = search rules in
+    let t : tie.After-take_sights-sighting = search rules in
     record { fits = omega (arith, (lent t).few) }
 
-enum_told : tie.Need-enum-told
+enum_told : tie.Need-enum_told-1
 enum_told c = search rules
 
-enum-told-2 : tie.Need-enum-told-2
+enum-told-2 : tie.Need-enum_told-in-Accepted
 enum-told-2 c = search rules
 
-array-share-prefix-directions : tie.Need-array-share-prefix-directions
+array-share-prefix-directions : tie.Need-slice_bounds-directions-end
 array-share-prefix-directions c =
-    let t : tie.After-take-sights = search rules in
+    let t : tie.After-take_sights-sighting = search rules in
     (lent t).within
 
-slice-aggregate-rank : tie.Need-slice-aggregate-rank
+slice-aggregate-rank : tie.Need-slice_bounds-rank-end
 slice-aggregate-rank c =
-    let t : tie.After-take-sights = search rules in
+    let t : tie.After-take_sights-sighting = search rules in
     (lent t).part
 
 rank-requires : tie.Need-rank-requires
 rank-requires c κs = search rules
 
-returns : tie.Need-returns
+returns : tie.Need-returns-in-Refused
 returns c =
-    let t : tie.After-take-sights = search rules in
-    let o : tie.After-enum-told = search rules in
-    (sighted-is t, sym (refused-room (whole t) t.take-sights.result (sighted-is t) _ o.enum_told.given.1))
+    let t : tie.After-take_sights-sighting = search rules in
+    let o : tie.In-Refused = search rules in
+    (sighted-is t, sym (refused-room (whole t) t.take_sights-sighting.result (sighted-is t) _ o.enum_told-1.given.1))
 
-same_length : tie.Need-same-length
+same_length : tie.Need-shape_of-room
 same_length c = search rules
 
-returns-2 : tie.Need-returns-2
+returns-2 : tie.Need-returns-in-Accepted
 returns-2 c =
-    let t : tie.After-take-sights = search rules in
-    let o : tie.After-enum-told2 = search rules in
+    let t : tie.After-take_sights-sighting = search rules in
+    let o : tie.In-Accepted = search rules in
     let k : tie.After-rank = search rules in
     let w = whole t in
-    let h = o.enum-told2.given.1 in (
+    let h = o.enum_told-in-Accepted-1.given.1 in (
       sighted-is t,
       k.rank.ensures.1.0
           ∙ ap (λ (ds : List ℤ). ranking.room_after ds w.catalogue w.settings.tolerance w.room) (lent t).front
-          ∙ room-ranked _ _ _ _ (sighted-ready w t.take-sights.result (sighted-is t) h)
-          ∙ sym (accepted-room w t.take-sights.result (sighted-is t) h),
+          ∙ room-ranked _ _ _ _ (sighted-ready w t.take_sights-sighting.result (sighted-is t) h)
+          ∙ sym (accepted-room w t.take_sights-sighting.result (sighted-is t) h),
     )
 
-pub ranked-spec : {M : Type 1} → statement M
-ranked-spec =
+pub ranked_spec : {M : Type 1} → statement M
+ranked_spec =
     tie.close
     (tie.spec
     catalogue-outcome-requires

@@ -16,20 +16,20 @@ use Rattle.chain.proofs.rival.contest.Tie as tie
 
 -- ---- what each place knows
 
-abbrev start : tie.After-ranked → tie.Start
+abbrev start : tie.After-ranked-sighting → tie.Start
 start k = search rules
 
-abbrev whole : tie.After-ranked → Call
+abbrev whole : tie.After-ranked-sighting → Call
 whole k = let a = (start k).args in call a.samples.now a.catalogue.now a.settings a.room.now
 
-lent : (k : tie.After-ranked) → Lent k.ranked.result.report k.ranked.result.directions (whole k).catalogue (whole k).settings
-lent k = sighted-lent (whole k) k.ranked.result k.ranked.ensures.0
+lent : (k : tie.After-ranked-sighting) → Lent k.ranked-sighting.result.report k.ranked-sighting.result.directions (whole k).catalogue (whole k).settings
+lent k = sighted-lent (whole k) k.ranked-sighting.result k.ranked-sighting.ensures.0
 
-report-is : (k : tie.After-ranked) → k.ranked.result.report ≡ (listed (whole k)).report
-report-is k = sighted-report (whole k) k.ranked.result k.ranked.ensures.0
+report-is : (k : tie.After-ranked-sighting) → k.ranked-sighting.result.report ≡ (listed (whole k)).report
+report-is k = sighted-report (whole k) k.ranked-sighting.result k.ranked-sighting.ensures.0
 
-outcome-is : (k : tie.After-ranked) {o : Outcome} → k.ranked.result.outcome ≡ o → first_applying (refusals_of (whole k)) ≡ o
-outcome-is k = sighted-outcome (whole k) k.ranked.result k.ranked.ensures.0
+outcome-is : (k : tie.After-ranked-sighting) {o : Outcome} → k.ranked-sighting.result.outcome ≡ o → first_applying (refusals_of (whole k)) ≡ o
+outcome-is k = sighted-outcome (whole k) k.ranked-sighting.result k.ranked-sighting.ensures.0
 
 -- ---- what the definitions come to
 
@@ -44,61 +44,61 @@ module _ (c : Call) where
 
 -- ---- the needs
 
-ranked-requires : tie.Need-ranked-requires
+ranked-requires : tie.Need-ranked-sighting-requires
 ranked-requires c κs = search rules
 
-mul-end : tie.Need-overflow-mul-end
+mul-end : tie.Need-overflow_mul-end
 mul-end c =
-    let k : tie.After-ranked = search rules in
+    let k : tie.After-ranked-sighting = search rules in
     record { fits = omega (arith, (lent k).few) }
 
-enum-known-outcome : tie.Need-enum-known-outcome
+enum-known-outcome : tie.Need-enum_known-outcome
 enum-known-outcome c = search rules
 
-enum_told : tie.Need-enum-told
+enum_told : tie.Need-enum_told-1
 enum_told c = search rules
 
-array-share-prefix-directions : tie.Need-array-share-prefix-directions
+array-share-prefix-directions : tie.Need-slice_bounds-directions-end
 array-share-prefix-directions c =
-    let k : tie.After-ranked = search rules in
+    let k : tie.After-ranked-sighting = search rules in
     (lent k).within
 
-slice-aggregate-contested : tie.Need-slice-aggregate-contested
+slice-aggregate-contested : tie.Need-slice_bounds-contested-end
 slice-aggregate-contested c =
-    let k : tie.After-ranked = search rules in
+    let k : tie.After-ranked-sighting = search rules in
     (lent k).part
 
 contested-requires : tie.Need-contested-requires
 contested-requires c κs =
-    let k : tie.After-ranked = search rules in
-    let t : tie.After-enum-told = search rules in
-    ranking-stands (whole k) k.ranked.result k.ranked.ensures.0 t.enum_told.given.1 _ k.ranked.ensures.1
+    let k : tie.After-ranked-sighting = search rules in
+    let t : tie.In-Accepted = search rules in
+    ranking-stands (whole k) k.ranked-sighting.result k.ranked-sighting.ensures.0 t.enum_told-1.given.1 _ k.ranked-sighting.ensures.1
 
-same_length : tie.Need-same-length
+same_length : tie.Need-shape_of-room-in-Refused
 same_length c = search rules
 
-returns : tie.Need-returns
+returns : tie.Need-returns-in-Refused
 returns c =
-    let k : tie.After-ranked = search rules in
-    let o : tie.After-outcome = search rules in
-    (sym (refused-contest (whole k) _ (outcome-is k o.outcome.given.1)), k.ranked.ensures.1)
+    let k : tie.After-ranked-sighting = search rules in
+    let o : tie.In-Refused-2 = search rules in
+    (sym (refused-contest (whole k) _ (outcome-is k o.outcome-1.given.1)), k.ranked-sighting.ensures.1)
 
-same-length-2 : tie.Need-same-length-2
+same-length-2 : tie.Need-shape_of-room-in-Accepted
 same-length-2 c = search rules
 
-returns-2 : tie.Need-returns-2
+returns-2 : tie.Need-returns-in-Accepted
 returns-2 c =
-    let k : tie.After-ranked = search rules in
-    let t : tie.After-enum-told = search rules in
+    let k : tie.After-ranked-sighting = search rules in
+    let t : tie.In-Accepted = search rules in
     let i : tie.After-contested = search rules in
     let w = whole k in (
       i.contested.ensures ∙ ap (λ (r : Report). our_contest r w.catalogue w.settings) (report-is k)
-          ∙ sym (accepted-contest w (outcome-is k t.enum_told.given.1)),
-      k.ranked.ensures.1,
+          ∙ sym (accepted-contest w (outcome-is k t.enum_told-1.given.1)),
+      k.ranked-sighting.ensures.1,
     )
 
-pub contest-spec : {M : Type 1} → statement M
-contest-spec =
+pub contest_spec : {M : Type 1} → statement M
+contest_spec =
     tie.close
     (tie.spec
     ranked-requires

@@ -20,19 +20,19 @@ words_are : (r : tie.After-records) → (start r).args.report.count * r.records.
 words_are r = ap (λ (n : ℕ). (start r).args.report.count * n) r.records.ensures
 
 room-long : (r : tie.After-records) → (start r).args.report.count * r.records.result ≤ length (start r).args.room.now
-room-long r = let s = start r in omega (arith, ap length s.pre.ranked, words_are r, laws.room-long _ _ _ _ s.pre.ready)
+room-long r = let s = start r in omega (arith, ap length s.requires.ranked, words_are r, laws.room-long _ _ _ _ s.requires.ready)
 
 ranking-is : (r : tie.After-records) → let s = start r in take (s.args.report.count * r.records.result) s.args.room.now
     ≡ our_ranking s.args.report s.args.bytes.now s.args.settings
-ranking-is r = let s = start r in (λ i. take (words_are r i) (s.pre.ranked i)) ∙ laws.room-front _ _ _ _ s.pre.ready
+ranking-is r = let s = start r in (λ i. take (words_are r i) (s.requires.ranked i)) ∙ laws.room-front _ _ _ _ s.requires.ready
 
 records-requires : tie.Need-records-requires
 records-requires c κs = search rules
 
-mul_words : tie.Need-overflow-mul-words
+mul_words : tie.Need-overflow_mul-words
 mul_words c = omega (arith, words_are c, laws.words-most _ _ _ _ (start c).requires.ready)
 
-slice-aggregate-rival : tie.Need-slice-aggregate-rival
+slice-aggregate-rival : tie.Need-slice_bounds-rival-end
 slice-aggregate-rival c = sym (length-take-le _ _ (room-long c.before))
 
 rival-requires : tie.Need-rival-requires
@@ -44,7 +44,7 @@ returns c =
     let r = c.before.before in
     let s = start r in
     let a = s.args in
-    c.rival.ensures.1 ∙ (λ i. contest_of (s.pre.sights i) a.bytes.now a.settings.needed a.settings.tolerance (ranking-is r i))
+    c.rival.ensures.1 ∙ (λ i. contest_of (s.requires.sights i) a.bytes.now a.settings.needed a.settings.tolerance (ranking-is r i))
 
-pub contested-spec : {M : Type 1} → statement M
-contested-spec = tie.close (tie.spec records-requires mul_words slice-aggregate-rival rival-requires returns)
+pub contested_spec : {M : Type 1} → statement M
+contested_spec = tie.close (tie.spec records-requires mul_words slice-aggregate-rival rival-requires returns)

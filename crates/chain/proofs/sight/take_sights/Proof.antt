@@ -29,28 +29,28 @@ module _ (samples : List ℕ) (stars : Outcome) (s : Settings) (words : ℕ) whe
       let q' = q ∙ ap (λ (x : Listing). padded_sights x.report s) e in
       (λ i. record { outcome = p' i; report = (e i).report; directions = q' i })
 
-sighted : (l : tie.After-list) → Sighted l.list.result.report
-sighted l = subst (λ (x : Listing). Sighted x.report) (sym l.list.ensures) (listing-sighted _ _ _ _)
+sighted : (l : tie.After-list-listing) → Sighted l.list-listing.result.report
+sighted l = subst (λ (x : Listing). Sighted x.report) (sym l.list-listing.ensures) (listing-sighted _ _ _ _)
 
-list-requires : tie.Need-list-requires
+list-requires : tie.Need-list-listing-requires
 list-requires c κs = search rules
 
-outcome-requires : tie.Need-outcome-requires
+outcome-requires : tie.Need-outcome-outcome-requires
 outcome-requires c κs = search rules
 
-directions-of-requires : tie.Need-directions-of-requires
+directions-of-requires : tie.Need-directions_of-directions-requires
 directions-of-requires c κs =
-    let l : tie.After-list = search rules in
+    let l : tie.After-list-listing = search rules in
     ((sighted l).few, (sighted l).placed)
 
 returns : tie.Need-returns
 returns c =
-    let l : tie.After-list = search rules in
-    let o : tie.After-outcome = search rules in
-    let d : tie.After-directions-of = search rules in
+    let l : tie.After-list-listing = search rules in
+    let o : tie.After-outcome-outcome = search rules in
+    let d : tie.After-directions_of-directions = search rules in
     let a : tie.Start = search rules in
-    joined a.args.samples.now a.args.stars a.args.settings a.args.words l.list.result _ _ l.list.ensures o.outcome.ensures.0
-    d.directions-of.ensures
+    joined a.args.samples.now a.args.stars a.args.settings a.args.words l.list-listing.result _ _ l.list-listing.ensures o.outcome-outcome.ensures.0
+    d.directions_of-directions.ensures
 
-pub take-sights-spec : {M : Type 1} → statement M
-take-sights-spec = tie.close (tie.spec list-requires outcome-requires directions-of-requires returns)
+pub take_sights_spec : {M : Type 1} → statement M
+take_sights_spec = tie.close (tie.spec list-requires outcome-requires directions-of-requires returns)

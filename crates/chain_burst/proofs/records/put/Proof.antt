@@ -9,42 +9,42 @@ use borrow.Author.Rules.{rules}
 use Rattle.chain_burst.proofs.records.put.Statement.{statement}
 use Rattle.chain_burst.proofs.records.put.Tie as tie
 
-enum_told : tie.Need-enum-told
+enum_told : tie.Need-enum_told-1
 enum_told c = search rules
 
-put-parts-requires : tie.Need-put-parts-requires
+put-parts-requires : tie.Need-put_parts-requires
 put-parts-requires c κs = search rules
 
-enum-known-outcome : tie.Need-enum-known-outcome
+enum-known-outcome : tie.Need-enum_known-outcome
 enum-known-outcome c = search rules
 
-cast-put-parts : tie.Need-overflow-cast-put-parts
+cast-put-parts : tie.Need-overflow_cast-r
 cast-put-parts c =
     let o = c.before.before.before in
-    record { fits = subst (λ (x : Outcome). (answer_of x).place < 4294967296) o.outcome.given.1 o.before.before.before.requires.1 }
+    record { fits = subst (λ (x : Outcome). (answer_of x).place < 4294967296) o.outcome-1.given.1 o.before.before.before.requires.1 }
 
-put-parts-requires-2 : tie.Need-put-parts-requires-2
+put-parts-requires-2 : tie.Need-put_parts-requires-in-Refused
 put-parts-requires-2 c κs = search rules
 
-same_length : tie.Need-same-length
+same_length : tie.Need-shape_of-room-in-Accepted
 same_length c = search rules
 
-returns : tie.Need-returns
+returns : tie.Need-returns-in-Accepted
 returns c =
     let p = c.before.before in
     let t = p.before.before in
     let a = t.before.before.before.args in
-    p.put-parts.ensures ∙ ap (λ (o : Outcome). sets a.room.now a.at (encoded (record_of o a.matrix))) (sym t.enum_told.given.1)
+    p.put_parts.ensures ∙ ap (λ (o : Outcome). sets a.room.now a.at (encoded (record_of o a.matrix))) (sym t.enum_told-1.given.1)
 
-same-length-2 : tie.Need-same-length-2
+same-length-2 : tie.Need-shape_of-room-in-Refused
 same-length-2 c = search rules
 
-returns-2 : tie.Need-returns-2
+returns-2 : tie.Need-returns-in-Refused
 returns-2 c =
     let p = c.before.before in
     let t = p.before.before.before.before in
     let a = t.before.before.before.args in
-    p.put-parts2.ensures ∙ ap (λ (o : Outcome). sets a.room.now a.at (encoded (record_of o a.matrix))) (sym t.outcome.given.1)
+    p.put_parts-in-Refused.ensures ∙ ap (λ (o : Outcome). sets a.room.now a.at (encoded (record_of o a.matrix))) (sym t.outcome-1.given.1)
 
 pub put_spec : {M : Type 1} → statement M
 put_spec =

@@ -21,28 +21,28 @@ again z h = ap (of_z w64) (back (held {w = w64} z h))
 bits-requires : tie.Need-bits-requires
 bits-requires c κs = search rules
 
-put-u64-requires : tie.Need-put-u64-requires
+put-u64-requires : tie.Need-put_u64-requires
 put-u64-requires c κs = search rules
 
-add-put-u64 : tie.Need-overflow-add-put-u64
+add-put-u64 : tie.Need-overflow_add-at
 add-put-u64 c = search rules
 
 bits-requires-2 : tie.Need-bits-requires-2
 bits-requires-2 c κs = search rules
 
-put-u64-requires-2 : tie.Need-put-u64-requires-2
+put-u64-requires-2 : tie.Need-put_u64-requires-2
 put-u64-requires-2 c κs = search rules
 
-add-put-u64-2 : tie.Need-overflow-add-put-u64-2
+add-put-u64-2 : tie.Need-overflow_add-at-2
 add-put-u64-2 c = search rules
 
 bits-requires-3 : tie.Need-bits-requires-3
 bits-requires-3 c κs = search rules
 
-put-u64-requires-3 : tie.Need-put-u64-requires-3
+put-u64-requires-3 : tie.Need-put_u64-requires-3
 put-u64-requires-3 c κs = search rules
 
-same_length : tie.Need-same-length
+same_length : tie.Need-shape_of-room
 same_length c = search rules
 
 returns : tie.Need-returns
@@ -51,18 +51,18 @@ returns c =
     let second = third.before.before.before.before.before.before in
     let first = second.before.before.before.before.before.before in
     let a = first.before.before.before.before.before.args in
-    let g = first.before.before.struct_told.given in
+    let g = first.before.before.struct_told-1.given in
     let x : first.before.bits.result ≡ of_z w64 a.row.x = first.before.bits.ensures ∙ again a.row.x g.0.1 in
-    let y : second.before.bits2.result ≡ of_z w64 a.row.y = second.before.bits2.ensures ∙ again a.row.y g.1.0.1 in
-    let z : third.before.bits3.result ≡ of_z w64 a.row.z = third.before.bits3.ensures ∙ again a.row.z g.1.1.0.1 in
-    third.put-u643.ensures
-    ∙ ap (λ (l : List ℕ). sets l (a.at + 16) (bytes_of 8 third.before.bits3.result))
-    (second.put-u642.ensures ∙ ap (λ (l : List ℕ). sets l (a.at + 8) (bytes_of 8 second.before.bits2.result)) first.put-u64.ensures)
+    let y : second.before.bits-2.result ≡ of_z w64 a.row.y = second.before.bits-2.ensures ∙ again a.row.y g.1.0.1 in
+    let z : third.before.bits-3.result ≡ of_z w64 a.row.z = third.before.bits-3.ensures ∙ again a.row.z g.1.1.0.1 in
+    third.put_u64-3.ensures
+    ∙ ap (λ (l : List ℕ). sets l (a.at + 16) (bytes_of 8 third.before.bits-3.result))
+    (second.put_u64-2.ensures ∙ ap (λ (l : List ℕ). sets l (a.at + 8) (bytes_of 8 second.before.bits-2.result)) first.put_u64.ensures)
     ∙ (λ i. sets (sets (sets a.room.now a.at (bytes_of 8 (x i))) (a.at + 8) (bytes_of 8 (y i))) (a.at + 16) (bytes_of 8 (z i)))
     ∙ row-stored a.room.now a.at a.row.x a.row.y a.row.z
 
-pub put-row-spec : {M : Type 1} → statement M
-put-row-spec =
+pub put_row_spec : {M : Type 1} → statement M
+put_row_spec =
     tie.close
     (tie.spec
     bits-requires

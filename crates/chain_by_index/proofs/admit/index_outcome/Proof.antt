@@ -21,13 +21,13 @@ matches-requires c κs = search rules
 plain-requires : tie.Need-plain-requires
 plain-requires c κs = search rules
 
-returns : tie.Need-returns
+returns : tie.Need-returns-then-not-matches
 returns c =
     let d = c.before.before in
-    c.plain.ensures ∙ sym (wrong-index _ _ _ (sym (tested d) ∙ not-true d.matches.result c.before.if1.true))
+    c.plain.ensures ∙ sym (wrong-index _ _ _ (sym (tested d) ∙ not-true d.matches.result c.before.if-not-matches.true))
 
-returns-2 : tie.Need-returns-2
-returns-2 c = sym (right-index _ _ _ (sym (tested c.before) ∙ not-false c.before.matches.result c.if1.false))
+returns-2 : tie.Need-returns
+returns-2 c = sym (right-index _ _ _ (sym (tested c.before) ∙ not-false c.before.matches.result c.if-not-matches.false))
 
-pub index-outcome-spec : {M : Type 1} → statement M
-index-outcome-spec = tie.close (tie.spec matches-requires plain-requires returns returns-2)
+pub index_outcome_spec : {M : Type 1} → statement M
+index_outcome_spec = tie.close (tie.spec matches-requires plain-requires returns returns-2)

@@ -20,63 +20,63 @@ use borrow.Author.Rules.{rules}
 use Rattle.chain_by_index.proofs.admit.stars_outcome.Statement.{statement}
 use Rattle.chain_by_index.proofs.admit.stars_outcome.Tie as tie
 
-check-requires : tie.Need-check-requires
+check-requires : tie.Need-check-checked-requires
 check-requires c κs = search rules
 
-enum-known-checked : tie.Need-enum-known-checked
+enum-known-checked : tie.Need-enum_known-checked
 enum-known-checked c = search rules
 
-enum-known-checked-2 : tie.Need-enum-known-checked-2
+enum-known-checked-2 : tie.Need-enum_known-checked-in-Count-1
 enum-known-checked-2 c = search rules
 
 -- the entry, from the place at which the catalogue is known to be valid
-abbrev start : tie.After-known-told2 → tie.Start
+abbrev start : tie.In-Count → tie.Start
 start c = c.before.before.before.before.before.before
 
 -- so many records: those of a valid catalogue
-valid : (c : tie.After-known-told2) → Valid (start c).args.bytes.now × (c.before.checked2.given.0.0 ≡ records_in (start c).args.bytes.now)
-valid c = checked-valid _ _ (sym c.before.before.before.check.ensures.0 ∙ c.before.checked2.given.1)
+valid : (c : tie.In-Count) → Valid (start c).args.bytes.now × (c.before.checked-in-Count-1.given.0.0 ≡ records_in (start c).args.bytes.now)
+valid c = checked-valid _ _ (sym c.before.before.before.check-checked.ensures.0 ∙ c.before.checked-in-Count-1.given.1)
 
 -- the slice that is handed on
-fits : (c : tie.After-stars) → 3 * c.before.before.checked2.given.0.0 ≤ length c.stars.result
-fits c = lent-within _ _ _ c.stars.ensures (valid c.before).1 (valid c.before).0
+fits : (c : tie.After-stars-numbers) → 3 * c.before.before.checked-in-Count-1.given.0.0 ≤ length c.stars-numbers.result
+fits c = lent-within _ _ _ c.stars-numbers.ensures (valid c.before).1 (valid c.before).0
 
-lent : (c : tie.After-stars) → take (3 * c.before.before.checked2.given.0.0) c.stars.result ≡ stars_of (start c.before).args.bytes.now
-lent c = lent-stars _ _ _ c.stars.ensures (valid c.before).1 (valid c.before).0
+lent : (c : tie.After-stars-numbers) → take (3 * c.before.before.checked-in-Count-1.given.0.0) c.stars-numbers.result ≡ stars_of (start c.before).args.bytes.now
+lent c = lent-stars _ _ _ c.stars-numbers.ensures (valid c.before).1 (valid c.before).0
 
-stars-requires : tie.Need-stars-requires
+stars-requires : tie.Need-stars-numbers-requires
 stars-requires c κs = search rules
 
-mul-end : tie.Need-overflow-mul-end
+mul-end : tie.Need-overflow_mul-end
 mul-end c = omega (arith, (valid c.before).1, (valid c.before).0.size.most)
 
-array-share-prefix-numbers : tie.Need-array-share-prefix-numbers
+array-share-prefix-numbers : tie.Need-slice_bounds-numbers-end
 array-share-prefix-numbers c = fits c
 
-slice-aggregate-index-outcome : tie.Need-slice-aggregate-index-outcome
+slice-aggregate-index-outcome : tie.Need-slice_bounds-index_outcome-end
 slice-aggregate-index-outcome c = sym (length-take-le _ _ (fits c.before))
 
-index-outcome-requires : tie.Need-index-outcome-requires
+index-outcome-requires : tie.Need-index_outcome-requires
 index-outcome-requires c κs = let t = c.before in subst (Listed 512) (sym (lent t)) (valid-listed _ (valid t.before).0)
 
-returns : tie.Need-returns
+returns : tie.Need-returns-in-Refused
 returns c =
     let a = c.before.before.before.before.before.before.args in
-    sym (stars-joined a.bytes.now a.index.now a.floor (checked_refused _ _ (sym c.before.before.before.check.ensures.0
-    ∙ c.before.checked.given.1)))
+    sym (stars-joined a.bytes.now a.index.now a.floor (checked_refused _ _ (sym c.before.before.before.check-checked.ensures.0
+    ∙ c.before.checked-1.given.1)))
 
-returns-2 : tie.Need-returns-2
+returns-2 : tie.Need-returns-in-Count
 returns-2 c =
     let t = c.before.before in
     let s = start t.before in
     let x = s.args in
     let f = to_z-of_z w64 x.floor s.fits.floor in
-    c.index-outcome.ensures
+    c.index_outcome.ensures
     ∙ (λ i. first_applying (index_rows (lent t i) x.index.now (f i)))
     ∙ sym (stars-joined x.bytes.now x.index.now x.floor (valid-accepted x.bytes.now (valid t.before).0))
 
-pub stars-outcome-spec : {M : Type 1} → statement M
-stars-outcome-spec =
+pub stars_outcome_spec : {M : Type 1} → statement M
+stars_outcome_spec =
     tie.close
     (tie.spec
     check-requires

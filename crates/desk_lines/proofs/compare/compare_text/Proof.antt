@@ -15,15 +15,15 @@ use borrow.Author.Rules.{rules}
 use Rattle.desk_lines.proofs.compare.compare_text.Statement.{statement}
 use Rattle.desk_lines.proofs.compare.compare_text.Tie as tie
 
-abbrev start : tie.After-compare → tie.Start
+abbrev start : tie.After-compare-compared → tie.Start
 start k = k.before.before.before.before.before.before
 
-compared_is : (k : tie.After-compare) → k.compare.result ≡ compared_of (start k).args.first.now (start k).args.second.now 8192
-compared_is k = k.compare.ensures.0 ∙ ap (compared_of (start k).args.first.now (start k).args.second.now) (length-replicate {A = ℕ} 8192 0)
+compared_is : (k : tie.After-compare-compared) → k.compare-compared.result ≡ compared_of (start k).args.first.now (start k).args.second.now 8192
+compared_is k = k.compare-compared.ensures.0 ∙ ap (compared_of (start k).args.first.now (start k).args.second.now) (length-replicate {A = ℕ} 8192 0)
 
 -- the list has records, and stands at the front of its room
-module _ (c : tie.After-compared2) where
-  abbrev called : tie.After-compare
+module _ (c : tie.In-Count-2) where
+  abbrev called : tie.After-compare-compared
   called = c.before.before.before
 
   abbrev first : List ℕ
@@ -33,10 +33,10 @@ module _ (c : tie.After-compared2) where
   second = (start called).args.second.now
 
   abbrev records : ℕ
-  records = c.compared2.given.0.0
+  records = c.compared-in-Count-1.given.0.0
 
   listed-is : compared_of first second 8192 ≡ Count records
-  listed-is = sym (compared_is called) ∙ c.compared2.given.1
+  listed-is = sym (compared_is called) ∙ c.compared-in-Count-1.given.1
 
   zeros : length (replicate {A = ℕ} 8192 0) ≡ 8192
   zeros = length-replicate {A = ℕ} 8192 0
@@ -48,69 +48,69 @@ module _ (c : tie.After-compared2) where
   long = list-long first second (replicate 8192 0) zeros records listed-is
 
   front : take (8 * records) called.compare.last.1.1.0 ≡ changes_of first second
-  front = ap (take (8 * records)) called.compare.ensures.1.0 ∙ list-front first second (replicate 8192 0) zeros records listed-is
+  front = ap (take (8 * records)) called.compare-compared.ensures.1.0 ∙ list-front first second (replicate 8192 0) zeros records listed-is
 
   within : 8 * records ≤ length called.compare.last.1.1.0
   within = omega (arith, length-take (8 * records) called.compare.last.1.1.0, ap length front, long)
 
-returns : tie.Need-returns
+returns : tie.Need-returns-then-room-lt-ROOM
 returns c =
-    let s = room-short 32768 _ _ c.if1.true in
+    let s = room-short 32768 _ _ c.if-room-lt-ROOM.true in
     (s.0, (s.1, omega arith))
 
-slice-aggregate-compare : tie.Need-slice-aggregate-compare
+slice-aggregate-compare : tie.Need-slice_bounds-compare-end
 slice-aggregate-compare c = search rules
 
-compare-requires : tie.Need-compare-requires
+compare-requires : tie.Need-compare-compared-requires
 compare-requires c κs = search rules
 
-enum-known-compared : tie.Need-enum-known-compared
+enum-known-compared : tie.Need-enum_known-compared
 enum-known-compared c = search rules
 
 refused-requires : tie.Need-refused-requires
 refused-requires c κs = search rules
 
-enum-known-compared-2 : tie.Need-enum-known-compared-2
+enum-known-compared-2 : tie.Need-enum_known-compared-in-Count-1
 enum-known-compared-2 c = search rules
 
-mul-end : tie.Need-overflow-mul-end
+mul-end : tie.Need-overflow_mul-end
 mul-end c = omega (arith, fits c.before)
 
-array-share-prefix-list : tie.Need-array-share-prefix-list
+array-share-prefix-list : tie.Need-slice_bounds-list-end
 array-share-prefix-list c = within c.before.before
 
-slice-aggregate-lines : tie.Need-slice-aggregate-lines
+slice-aggregate-lines : tie.Need-slice_bounds-lines-end
 slice-aggregate-lines c = sym (length-take-le _ _ (within c.before.before.before))
 
 lines-requires : tie.Need-lines-requires
 lines-requires c κs = search rules
 
-same_length : tie.Need-same-length
+same_length : tie.Need-shape_of-room-in-Refused
 same_length c = search rules
 
-returns-2 : tie.Need-returns-2
+returns-2 : tie.Need-returns-in-Refused
 returns-2 c =
     let w = c.before.before in
-    let e : tie.Else1 = search rules in
-    let k : tie.After-compare = search rules in
-    let m : tie.After-compared = search rules in
-    let t = text-refused (start k).args.first.now (start k).args.second.now _ (sym (compared_is k) ∙ m.compared.given.1) in
-    room-told 32768 _ _ _ _ _ 29696 e.if1.left (omega (arith, w.refused.ensures.1)) (omega arith) t w.refused.ensures.0
+    let e : tie.Else-room-lt-ROOM = search rules in
+    let k : tie.After-compare-compared = search rules in
+    let m : tie.In-Refused-2 = search rules in
+    let t = text-refused (start k).args.first.now (start k).args.second.now _ (sym (compared_is k) ∙ m.compared-1.given.1) in
+    room-told 32768 _ _ _ _ _ 29696 e.if-room-lt-ROOM.left (omega (arith, w.refused.ensures.1)) (omega arith) t w.refused.ensures.0
 
-same-length-2 : tie.Need-same-length-2
+same-length-2 : tie.Need-shape_of-room-in-Count
 same-length-2 c = search rules
 
-returns-3 : tie.Need-returns-3
+returns-3 : tie.Need-returns-in-Count
 returns-3 c =
     let w = c.before.before in
-    let e : tie.Else1 = search rules in
-    let m : tie.After-compared2 = search rules in
+    let e : tie.Else-room-lt-ROOM = search rules in
+    let m : tie.In-Count-2 = search rules in
     let t = ap (λ (l : List ℕ). lines_of l) (front m) ∙ text-listed (first m) (second m) (records m) (listed-is m) in
-    room-told 32768 _ _ _ _ _ 29696 e.if1.left (omega (arith, w.lines.ensures.1, ap length (front m), long m, fits m)) (omega arith) t
+    room-told 32768 _ _ _ _ _ 29696 e.if-room-lt-ROOM.left (omega (arith, w.lines.ensures.1, ap length (front m), long m, fits m)) (omega arith) t
     w.lines.ensures.0
 
-pub compare-text-spec : {M : Type 1} → statement M
-compare-text-spec =
+pub compare_text_spec : {M : Type 1} → statement M
+compare_text_spec =
     tie.close
     (tie.spec
     returns

@@ -18,50 +18,50 @@ slice-aggregate-labelled c = search rules
 labelled-requires : tie.Need-labelled-requires
 labelled-requires c κs = search rules
 
-same_length : tie.Need-same-length
+same_length : tie.Need-shape_of-room-then-kind-eq1
 same_length c = search rules
 
-returns : tie.Need-returns
+returns : tie.Need-returns-then-kind-eq1
 returns c =
     let w : tie.After-labelled = search rules in
-    let t : tie.Then1 = search rules in
+    let t : tie.Then-kind-eq1 = search rules in
     let x = t.before.before.args in
-    (told (label-removed x.identity x.kind t.if1.taken) w.labelled.ensures.0, omega (arith, w.labelled.ensures.1))
+    (told (label-removed x.identity x.kind t.if-kind-eq1.taken) w.labelled.ensures.0, omega (arith, w.labelled.ensures.1))
 
 slice-aggregate-labelled-2 : tie.Need-slice-aggregate-labelled-2
 slice-aggregate-labelled-2 c = search rules
 
-labelled-requires-2 : tie.Need-labelled-requires-2
+labelled-requires-2 : tie.Need-labelled-requires-then-kind-eq2
 labelled-requires-2 c κs = search rules
 
-same-length-2 : tie.Need-same-length-2
+same-length-2 : tie.Need-shape_of-room-then-kind-eq2
 same-length-2 c = search rules
 
-returns-2 : tie.Need-returns-2
+returns-2 : tie.Need-returns-then-kind-eq2
 returns-2 c =
-    let w : tie.After-labelled2 = search rules in
-    let t : tie.Then2 = search rules in
+    let w : tie.After-labelled-then-kind-eq2 = search rules in
+    let t : tie.Then-kind-eq2 = search rules in
     let x = t.before.before.before.args in
-    (told (label-added x.identity x.kind t.before.if1.left t.if2.taken) w.labelled2.ensures.0, omega (arith, w.labelled2.ensures.1))
+    (told (label-added x.identity x.kind t.before.if-kind-eq1.left t.if-kind-eq2.taken) w.labelled-then-kind-eq2.ensures.0, omega (arith, w.labelled-then-kind-eq2.ensures.1))
 
 slice-aggregate-labelled-3 : tie.Need-slice-aggregate-labelled-3
 slice-aggregate-labelled-3 c = search rules
 
-labelled-requires-3 : tie.Need-labelled-requires-3
+labelled-requires-3 : tie.Need-labelled-requires-2
 labelled-requires-3 c κs = search rules
 
-same-length-3 : tie.Need-same-length-3
+same-length-3 : tie.Need-shape_of-room
 same-length-3 c = search rules
 
-returns-3 : tie.Need-returns-3
+returns-3 : tie.Need-returns
 returns-3 c =
-    let w : tie.After-labelled3 = search rules in
-    let t : tie.Else2 = search rules in
+    let w : tie.After-labelled-2 = search rules in
+    let t : tie.Else-kind-eq2 = search rules in
     let x = t.before.before.before.args in
-    (told (label-changed x.identity x.kind t.before.if1.left t.if2.left) w.labelled3.ensures.0, omega (arith, w.labelled3.ensures.1))
+    (told (label-changed x.identity x.kind t.before.if-kind-eq1.left t.if-kind-eq2.left) w.labelled-2.ensures.0, omega (arith, w.labelled-2.ensures.1))
 
-pub label-spec : {M : Type 1} → statement M
-label-spec =
+pub label_spec : {M : Type 1} → statement M
+label_spec =
     tie.close
     (tie.spec
     slice-aggregate-labelled

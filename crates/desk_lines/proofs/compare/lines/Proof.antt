@@ -11,59 +11,59 @@ use Rattle.desk_lines.specs.compare.LinesLaws.{lines_start, lines_more, lines-al
 use Rattle.desk_lines.proofs.compare.lines.Statement.{statement}
 use Rattle.desk_lines.proofs.compare.lines.Tie as tie
 
-abbrev invariant-loop : tie.invariant-loop
+abbrev invariant-loop : tie.invariant-loop-k
 invariant-loop room₀ list records next₀ k₀ room next k = (k ≤ records) × (length room ≡ length room₀) × Wrote room₀ 0 (lines_to list k) room next × (next ≤ 29 * k)
 
-abbrev decreases-loop : tie.decreases-loop
+abbrev decreases-loop : tie.decreases-loop-k
 decreases-loop room₀ list records next₀ k₀ room next k = records - k
 
-loop-holds : tie.Need-loop-init invariant-loop decreases-loop
+loop-holds : tie.Need-loop-k-init invariant-loop decreases-loop
 loop-holds c = (search rules, refl, lines_start _ _, omega arith)
 
-mul_at : tie.Need-overflow-mul-at invariant-loop decreases-loop
+mul_at : tie.Need-overflow_mul-at invariant-loop decreases-loop
 mul_at c = search rules
 
-u32-at-requires : tie.Need-u32-at-requires invariant-loop decreases-loop
+u32-at-requires : tie.Need-u32_at-requires invariant-loop decreases-loop
 u32-at-requires c κs = search rules
 
-add-u32-at : tie.Need-overflow-add-u32-at invariant-loop decreases-loop
+add-u32-at : tie.Need-overflow_add-at invariant-loop decreases-loop
 add-u32-at c = search rules
 
-u32-at-requires-2 : tie.Need-u32-at-requires-2 invariant-loop decreases-loop
+u32-at-requires-2 : tie.Need-u32_at-requires-in-loop-k invariant-loop decreases-loop
 u32-at-requires-2 c κs = search rules
 
-line-requires : tie.Need-line-requires invariant-loop decreases-loop
+line-requires : tie.Need-line-next-requires invariant-loop decreases-loop
 line-requires c κs = search rules
 
-add-k : tie.Need-overflow-add-k invariant-loop decreases-loop
+add-k : tie.Need-overflow_add-k invariant-loop decreases-loop
 add-k c = search rules
 
-loop-less : tie.Need-loop-smaller invariant-loop decreases-loop
+loop-less : tie.Need-loop-k-smaller invariant-loop decreases-loop
 loop-less c = search rules
 
-loop-again : tie.Need-loop-preserved invariant-loop decreases-loop
+loop-again : tie.Need-loop-k-preserved invariant-loop decreases-loop
 loop-again c =
-    let w : tie.After-line invariant-loop decreases-loop = search rules in
-    let l : tie.At-loop invariant-loop decreases-loop = search rules in
-    let u : tie.After-u32-at invariant-loop decreases-loop = search rules in
-    let v : tie.After-u32-at2 invariant-loop decreases-loop = search rules in
-    let i = l.loop.inv in (
+    let w : tie.After-line-next invariant-loop decreases-loop = search rules in
+    let l : tie.At-loop-k invariant-loop decreases-loop = search rules in
+    let u : tie.After-u32_at invariant-loop decreases-loop = search rules in
+    let v : tie.After-u32_at-in-loop-k invariant-loop decreases-loop = search rules in
+    let i = l.loop-k.inv in (
       omega arith,
-      wrote-length w.line.ensures.0 ∙ i.1,
-      lines_more _ l.loop.k u.u32-at.ensures v.u32-at2.ensures i.2 w.line.ensures.0,
-      omega (arith, i.3, w.line.ensures.1),
+      wrote-length w.line-next.ensures.0 ∙ i.1,
+      lines_more _ l.loop-k.k u.u32_at.ensures v.u32_at-in-loop-k.ensures i.2 w.line-next.ensures.0,
+      omega (arith, i.3, w.line-next.ensures.1),
     )
 
-same_length : tie.Need-same-length invariant-loop decreases-loop
+same_length : tie.Need-shape_of-room invariant-loop decreases-loop
 same_length c = search rules
 
 returns : tie.Need-returns invariant-loop decreases-loop
 returns c =
-    let i = c.before.loop.invariant in
-    (lines-all _ c.before.loop.k (omega arith) i.2, omega (arith, i.3))
+    let i = c.before.loop-k.invariant in
+    (lines-all _ c.before.loop-k.k (omega arith) i.2, omega (arith, i.3))
 
-pub lines-spec : {M : Type 1} → statement M
-lines-spec =
+pub lines_spec : {M : Type 1} → statement M
+lines_spec =
     tie.close
     (tie.spec
     invariant-loop

@@ -55,79 +55,79 @@ module _
   )
 
 -- what the cut gave and left, by the numbers as they were handed in
-module _ (c : tie.After-cut) where
+module _ (c : tie.After-cut-shortened) where
   abbrev start : tie.Start
   start = c.before.before.before.before.before.before
 
-  gave : c.cut.result ≡ shortened_of start.args.bytes.now start.args.limit start.args.closeness
+  gave : c.cut-shortened.result ≡ shortened_of start.args.bytes.now start.args.limit start.args.closeness
   gave =
       let y = to_z-of_z w32 start.args.limit start.fits.limit in
       let z = to_z-of_z w64 start.args.closeness start.fits.closeness in
-      c.cut.ensures.0 ∙ (λ i. shortened_of start.args.bytes.now (y i) (z i))
+      c.cut-shortened.ensures.0 ∙ (λ i. shortened_of start.args.bytes.now (y i) (z i))
 
-  left : c.cut.new.0 ≡ buffer_after start.args.bytes.now start.args.limit start.args.closeness
+  left : c.cut-shortened.new.0 ≡ buffer_after start.args.bytes.now start.args.limit start.args.closeness
   left =
       let y = to_z-of_z w32 start.args.limit start.fits.limit in
       let z = to_z-of_z w64 start.args.closeness start.fits.closeness in
-      c.cut.ensures.1.0 ∙ (λ i. buffer_after start.args.bytes.now (y i) (z i))
+      c.cut-shortened.ensures.1.0 ∙ (λ i. buffer_after start.args.bytes.now (y i) (z i))
 
-records-requires : tie.Need-records-requires
+records-requires : tie.Need-records-records-requires
 records-requires c κs = search rules
 
-cut-requires : tie.Need-cut-requires
+cut-requires : tie.Need-cut-shortened-requires
 cut-requires c κs = search rules
 
-enum-known-shortened : tie.Need-enum-known-shortened
+enum-known-shortened : tie.Need-enum_known-shortened
 enum-known-shortened c = search rules
 
-whole-line-requires : tie.Need-whole-line-requires
+whole-line-requires : tie.Need-whole_line-line-requires
 whole-line-requires c κs = search rules
 
-enum-known-shortened-2 : tie.Need-enum-known-shortened-2
+enum-known-shortened-2 : tie.Need-enum_known-shortened-in-Count-1
 enum-known-shortened-2 c = search rules
 
-mul-kept : tie.Need-overflow-mul-kept
+mul-kept : tie.Need-overflow_mul-kept
 mul-kept c =
-    let k : tie.After-cut = search rules in
-    let t : tie.After-shortened2 = search rules in
+    let k : tie.After-cut-shortened = search rules in
+    let t : tie.In-Count-2 = search rules in
     let x = (start k).args in
-    record { fits = omega (arith, flight-within x.bytes.now x.limit x.closeness _ (sym (gave k) ∙ t.shortened2.given.1)) }
+    record { fits = omega (arith, flight-within x.bytes.now x.limit x.closeness _ (sym (gave k) ∙ t.shortened-in-Count-1.given.1)) }
 
-whole-line-requires-2 : tie.Need-whole-line-requires-2
+whole-line-requires-2 : tie.Need-whole_line-line-requires-in-Count
 whole-line-requires-2 c κs = search rules
 
-same_length : tie.Need-same-length
+same_length : tie.Need-shape_of-bytes-in-Refused
 same_length c = search rules
 
-same-length-2 : tie.Need-same-length-2
+same-length-2 : tie.Need-shape_of-room-in-Refused
 same-length-2 c = search rules
 
-returns : tie.Need-returns
+returns : tie.Need-returns-in-Refused
 returns c =
-    let w : tie.After-whole-line = search rules in
-    let t : tie.After-shortened = search rules in
-    let k : tie.After-cut = search rules in
+    let w : tie.After-whole_line-line = search rules in
+    let t : tie.In-Refused-2 = search rules in
+    let k : tie.After-cut-shortened = search rules in
     let x = (start k).args in
-    refused x.bytes.now x.limit x.closeness x.room.now _ _ (gave k) (left k) k.before.before.records.ensures _ t.shortened.given.1
-    w.whole-line.ensures.0 w.whole-line.ensures.1.0 w.whole-line.ensures.1.1
+    refused x.bytes.now x.limit x.closeness x.room.now _ _ (gave k) (left k) k.before.before.records-records.ensures _ t.shortened-1.given.1
+    w.whole_line-line.ensures.0 w.whole_line-line.ensures.1.0 w.whole_line-line.ensures.1.1
 
-same-length-3 : tie.Need-same-length-3
+same-length-3 : tie.Need-shape_of-bytes-in-Count
 same-length-3 c = search rules
 
-same-length-4 : tie.Need-same-length-4
+same-length-4 : tie.Need-shape_of-room-in-Count
 same-length-4 c = search rules
 
-returns-2 : tie.Need-returns-2
+returns-2 : tie.Need-returns-in-Count
 returns-2 c =
-    let w : tie.After-whole-line2 = search rules in
-    let t : tie.After-shortened2 = search rules in
-    let k : tie.After-cut = search rules in
+    let w : tie.After-whole_line-line-in-Count = search rules in
+    let t : tie.In-Count-2 = search rules in
+    let k : tie.After-cut-shortened = search rules in
     let x = (start k).args in
-    kept x.bytes.now x.limit x.closeness x.room.now _ _ (gave k) (left k) k.before.before.records.ensures _ t.shortened2.given.1
-    w.whole-line2.ensures.0 w.whole-line2.ensures.1.0 w.whole-line2.ensures.1.1
+    kept x.bytes.now x.limit x.closeness x.room.now _ _ (gave k) (left k) k.before.before.records-records.ensures _ t.shortened-in-Count-1.given.1
+    w.whole_line-line-in-Count.ensures.0 w.whole_line-line-in-Count.ensures.1.0 w.whole_line-line-in-Count.ensures.1.1
 
-pub cut-text-spec : {M : Type 1} → statement M
-cut-text-spec =
+pub cut_text_spec : {M : Type 1} → statement M
+cut_text_spec =
     tie.close
     (tie.spec
     records-requires

@@ -9,13 +9,13 @@ use Rattle.desk_lines.proofs.file_line.kept_line.Tie as tie
 slice-aggregate-labelled : tie.Need-slice-aggregate-labelled
 slice-aggregate-labelled c = search rules
 
-labelled-requires : tie.Need-labelled-requires
+labelled-requires : tie.Need-labelled-first-requires
 labelled-requires c κs = search rules
 
 slice-aggregate-labelled-2 : tie.Need-slice-aggregate-labelled-2
 slice-aggregate-labelled-2 c = search rules
 
-labelled-requires-2 : tie.Need-labelled-requires-2
+labelled-requires-2 : tie.Need-labelled-second-requires
 labelled-requires-2 c κs = search rules
 
 slice-aggregate-word : tie.Need-slice-aggregate-word
@@ -24,7 +24,7 @@ slice-aggregate-word c = search rules
 word-requires : tie.Need-word-requires
 word-requires c κs = search rules
 
-same_length : tie.Need-same-length
+same_length : tie.Need-shape_of-room
 same_length c = search rules
 
 returns : tie.Need-returns
@@ -33,12 +33,12 @@ returns c =
     let w3 = c.before.before in
     let w2 = w3.before.before.before.before.before in
     let w1 = w2.before.before.before.before.before in (
-      wrote_then (wrote_then w1.labelled.ensures.0 w2.labelled2.ensures.0) w3.word.ensures,
-      omega (arith, w1.labelled.ensures.1, w2.labelled2.ensures.1, w3.word.ensures.place),
+      wrote_then (wrote_then w1.labelled-first.ensures.0 w2.labelled-second.ensures.0) w3.word.ensures,
+      omega (arith, w1.labelled-first.ensures.1, w2.labelled-second.ensures.1, w3.word.ensures.place),
     )
 
-pub kept-line-spec : {M : Type 1} → statement M
-kept-line-spec =
+pub kept_line_spec : {M : Type 1} → statement M
+kept_line_spec =
     tie.close
     (tie.spec
     slice-aggregate-labelled

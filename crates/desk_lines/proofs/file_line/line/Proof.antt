@@ -13,53 +13,53 @@ use Rattle.desk_lines.proofs.file_line.line.Tie as tie
 told : {x y : Said} {a b : List ℕ} {to : ℕ} → x ≡ y → Wrote a 0 (said_line y) b to → Wrote a 0 (said_line x) b to
 told e p = rw e p
 
-enum-known-said : tie.Need-enum-known-said
+enum-known-said : tie.Need-enum_known-said
 enum-known-said c = search rules
 
 refused-requires : tie.Need-refused-requires
 refused-requires c κs = search rules
 
-enum-known-said-2 : tie.Need-enum-known-said-2
+enum-known-said-2 : tie.Need-enum_known-said-in-Records-1
 enum-known-said-2 c = search rules
 
-records-line-requires : tie.Need-records-line-requires
+records-line-requires : tie.Need-records_line-requires
 records-line-requires c κs = search rules
 
-enum-known-said-3 : tie.Need-enum-known-said-3
+enum-known-said-3 : tie.Need-enum_known-said-in-Kept-1
 enum-known-said-3 c = search rules
 
-kept-line-requires : tie.Need-kept-line-requires
+kept-line-requires : tie.Need-kept_line-requires
 kept-line-requires c κs = search rules
 
-same_length : tie.Need-same-length
+same_length : tie.Need-shape_of-room-in-Refused
 same_length c = search rules
 
-returns : tie.Need-returns
+returns : tie.Need-returns-in-Refused
 returns c =
     let w = c.before.before in
-    let t : tie.After-said = search rules in
-    (told t.said.given.1 w.refused.ensures.0, omega (arith, w.refused.ensures.1))
+    let t : tie.In-Refused-2 = search rules in
+    (told t.said-1.given.1 w.refused.ensures.0, omega (arith, w.refused.ensures.1))
 
-same-length-2 : tie.Need-same-length-2
+same-length-2 : tie.Need-shape_of-room-in-Records
 same-length-2 c = search rules
 
-returns-2 : tie.Need-returns-2
+returns-2 : tie.Need-returns-in-Records
 returns-2 c =
     let w = c.before.before in
-    let t : tie.After-said2 = search rules in
-    (told t.said2.given.1 w.records-line.ensures.0, omega (arith, w.records-line.ensures.1))
+    let t : tie.In-Records-2 = search rules in
+    (told t.said-in-Records-1.given.1 w.records_line.ensures.0, omega (arith, w.records_line.ensures.1))
 
-same-length-3 : tie.Need-same-length-3
+same-length-3 : tie.Need-shape_of-room-in-Kept
 same-length-3 c = search rules
 
-returns-3 : tie.Need-returns-3
+returns-3 : tie.Need-returns-in-Kept
 returns-3 c =
     let w = c.before.before in
-    let t : tie.After-said3 = search rules in
-    (told t.said3.given.1 w.Kept-line.ensures.0, omega (arith, w.Kept-line.ensures.1))
+    let t : tie.In-Kept-2 = search rules in
+    (told t.said-in-Kept-1.given.1 w.Kept-line.ensures.0, omega (arith, w.Kept-line.ensures.1))
 
-pub line-spec : {M : Type 1} → statement M
-line-spec =
+pub line_spec : {M : Type 1} → statement M
+line_spec =
     tie.close
     (tie.spec
     enum-known-said

@@ -5,23 +5,23 @@ use Rattle.text.specs.RoomLaws.{room-short, room_whole}
 use Rattle.desk_lines.proofs.file_line.whole_line.Statement.{statement}
 use Rattle.desk_lines.proofs.file_line.whole_line.Tie as tie
 
-returns : tie.Need-returns
+returns : tie.Need-returns-then-room-lt-LINE
 returns c =
-    let s = room-short 128 _ _ c.if1.true in
+    let s = room-short 128 _ _ c.if-room-lt-LINE.true in
     (s.0, (s.1, omega arith))
 
 line-requires : tie.Need-line-requires
 line-requires c κs = search rules
 
-same_length : tie.Need-same-length
+same_length : tie.Need-shape_of-room
 same_length c = search rules
 
-returns-2 : tie.Need-returns-2
+returns-2 : tie.Need-returns
 returns-2 c =
     let w = c.before.before in
-    let e : tie.Else1 = search rules in
-    let b = room_whole 128 _ _ _ _ e.if1.left (omega (arith, w.line.ensures.1)) w.line.ensures.0 in
+    let e : tie.Else-room-lt-LINE = search rules in
+    let b = room_whole 128 _ _ _ _ e.if-room-lt-LINE.left (omega (arith, w.line.ensures.1)) w.line.ensures.0 in
     (b.0, (b.1, w.line.ensures.1))
 
-pub whole-line-spec : {M : Type 1} → statement M
-whole-line-spec = tie.close (tie.spec returns line-requires same_length returns-2)
+pub whole_line_spec : {M : Type 1} → statement M
+whole_line_spec = tie.close (tie.spec returns line-requires same_length returns-2)

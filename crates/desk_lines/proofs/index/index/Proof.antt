@@ -53,73 +53,73 @@ module _
   )
 
 -- what the builder gave and left, by the floor as it was handed in
-module _ (c : tie.After-build) where
+module _ (c : tie.After-build-built) where
   abbrev start : tie.Start
   start = c.before.before.before.before.before
 
   floor-is : to_z w64 (of_z w64 start.args.floor) ≡ start.args.floor
   floor-is = to_z-of_z w64 start.args.floor start.fits.floor
 
-  built-is : c.build.result ≡ built_of start.args.catalogue.now start.args.floor (length start.args.index.now)
-  built-is = c.build.ensures.0 ∙ ap (λ (z : ℤ). built_of start.args.catalogue.now z (length start.args.index.now)) floor-is
+  built-is : c.build-built.result ≡ built_of start.args.catalogue.now start.args.floor (length start.args.index.now)
+  built-is = c.build-built.ensures.0 ∙ ap (λ (z : ℤ). built_of start.args.catalogue.now z (length start.args.index.now)) floor-is
 
-  made-is : c.build.new.1.1.0 ≡ room_after start.args.catalogue.now start.args.floor start.args.index.now
-  made-is = c.build.ensures.1.0 ∙ ap (λ (z : ℤ). room_after start.args.catalogue.now z start.args.index.now) floor-is
+  made-is : c.build-built.new.1.1.0 ≡ room_after start.args.catalogue.now start.args.floor start.args.index.now
+  made-is = c.build-built.ensures.1.0 ∙ ap (λ (z : ℤ). room_after start.args.catalogue.now z start.args.index.now) floor-is
 
-build-requires : tie.Need-build-requires
+build-requires : tie.Need-build-built-requires
 build-requires c κs = search rules
 
-enum-known-built : tie.Need-enum-known-built
+enum-known-built : tie.Need-enum_known-built
 enum-known-built c = search rules
 
-whole-line-requires : tie.Need-whole-line-requires
+whole-line-requires : tie.Need-whole_line-line-requires
 whole-line-requires c κs = search rules
 
-enum-known-built-2 : tie.Need-enum-known-built-2
+enum-known-built-2 : tie.Need-enum_known-built-in-Count-1
 enum-known-built-2 c = search rules
 
-mul-bytes : tie.Need-overflow-mul-bytes
+mul-bytes : tie.Need-overflow_mul-bytes
 mul-bytes c =
-    let b : tie.After-build = search rules in
-    let t : tie.After-built2 = search rules in
+    let b : tie.After-build-built = search rules in
+    let t : tie.In-Count-2 = search rules in
     let a = (start b).args in
-    record { fits = omega (arith, index-within a.catalogue.now a.floor (length a.index.now) _ (sym (built-is b) ∙ t.built2.given.1)) }
+    record { fits = omega (arith, index-within a.catalogue.now a.floor (length a.index.now) _ (sym (built-is b) ∙ t.built-in-Count-1.given.1)) }
 
-whole-line-requires-2 : tie.Need-whole-line-requires-2
+whole-line-requires-2 : tie.Need-whole_line-line-requires-in-Count
 whole-line-requires-2 c κs = search rules
 
-same_length : tie.Need-same-length
+same_length : tie.Need-shape_of-index-in-Refused
 same_length c = search rules
 
-same-length-2 : tie.Need-same-length-2
+same-length-2 : tie.Need-shape_of-room-in-Refused
 same-length-2 c = search rules
 
-returns : tie.Need-returns
+returns : tie.Need-returns-in-Refused
 returns c =
-    let w : tie.After-whole-line = search rules in
-    let t : tie.After-built = search rules in
-    let b : tie.After-build = search rules in
+    let w : tie.After-whole_line-line = search rules in
+    let t : tie.In-Refused-2 = search rules in
+    let b : tie.After-build-built = search rules in
     let a = (start b).args in
-    refused a.catalogue.now a.floor a.index.now a.room.now _ _ (built-is b) (made-is b) _ t.built.given.1 w.whole-line.ensures.0
-    w.whole-line.ensures.1.0 w.whole-line.ensures.1.1
+    refused a.catalogue.now a.floor a.index.now a.room.now _ _ (built-is b) (made-is b) _ t.built-1.given.1 w.whole_line-line.ensures.0
+    w.whole_line-line.ensures.1.0 w.whole_line-line.ensures.1.1
 
-same-length-3 : tie.Need-same-length-3
+same-length-3 : tie.Need-shape_of-index-in-Count
 same-length-3 c = search rules
 
-same-length-4 : tie.Need-same-length-4
+same-length-4 : tie.Need-shape_of-room-in-Count
 same-length-4 c = search rules
 
-returns-2 : tie.Need-returns-2
+returns-2 : tie.Need-returns-in-Count
 returns-2 c =
-    let w : tie.After-whole-line2 = search rules in
-    let t : tie.After-built2 = search rules in
-    let b : tie.After-build = search rules in
+    let w : tie.After-whole_line-line-in-Count = search rules in
+    let t : tie.In-Count-2 = search rules in
+    let b : tie.After-build-built = search rules in
     let a = (start b).args in
-    records a.catalogue.now a.floor a.index.now a.room.now _ _ (built-is b) (made-is b) _ t.built2.given.1 w.whole-line2.ensures.0
-    w.whole-line2.ensures.1.0 w.whole-line2.ensures.1.1
+    records a.catalogue.now a.floor a.index.now a.room.now _ _ (built-is b) (made-is b) _ t.built-in-Count-1.given.1 w.whole_line-line-in-Count.ensures.0
+    w.whole_line-line-in-Count.ensures.1.0 w.whole_line-line-in-Count.ensures.1.1
 
-pub index-spec : {M : Type 1} → statement M
-index-spec =
+pub index_spec : {M : Type 1} → statement M
+index_spec =
     tie.close
     (tie.spec
     build-requires

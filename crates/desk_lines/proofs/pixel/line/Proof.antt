@@ -13,38 +13,38 @@ use Rattle.desk_lines.proofs.pixel.line.Tie as tie
 told : {x y : Explanation} {a b : List ℕ} {to : ℕ} → x ≡ y → Wrote a 0 (explanation_line y) b to → Wrote a 0 (explanation_line x) b to
 told e p = rw e p
 
-enum-known-explanation : tie.Need-enum-known-explanation
+enum-known-explanation : tie.Need-enum_known-explanation
 enum-known-explanation c = search rules
 
 refused-requires : tie.Need-refused-requires
 refused-requires c κs = search rules
 
-enum-known-explanation-2 : tie.Need-enum-known-explanation-2
+enum-known-explanation-2 : tie.Need-enum_known-explanation-in-Given-1
 enum-known-explanation-2 c = search rules
 
-reason-line-requires : tie.Need-reason-line-requires
+reason-line-requires : tie.Need-reason_line-requires
 reason-line-requires c κs = search rules
 
-same_length : tie.Need-same-length
+same_length : tie.Need-shape_of-room-in-Refused
 same_length c = search rules
 
-returns : tie.Need-returns
+returns : tie.Need-returns-in-Refused
 returns c =
     let w = c.before.before in
-    let t : tie.After-explanation = search rules in
-    (told t.explanation.given.1 w.refused.ensures.0, omega (arith, w.refused.ensures.1))
+    let t : tie.In-Refused-2 = search rules in
+    (told t.explanation-1.given.1 w.refused.ensures.0, omega (arith, w.refused.ensures.1))
 
-same-length-2 : tie.Need-same-length-2
+same-length-2 : tie.Need-shape_of-room-in-Given
 same-length-2 c = search rules
 
-returns-2 : tie.Need-returns-2
+returns-2 : tie.Need-returns-in-Given
 returns-2 c =
     let w = c.before.before in
-    let t : tie.After-explanation2 = search rules in
-    (told t.explanation2.given.1 w.reason-line.ensures.0, omega (arith, w.reason-line.ensures.1))
+    let t : tie.In-Given-2 = search rules in
+    (told t.explanation-in-Given-1.given.1 w.reason_line.ensures.0, omega (arith, w.reason_line.ensures.1))
 
-pub line-spec : {M : Type 1} → statement M
-line-spec =
+pub line_spec : {M : Type 1} → statement M
+line_spec =
     tie.close
     (tie.spec
     enum-known-explanation

@@ -14,7 +14,7 @@ use Rattle.desk_lines.proofs.pixel.side_line.Tie as tie
 told : {s t : Side} {a b : List ℕ} {to : ℕ} → s ≡ t → Wrote a 0 (side_line t) b to → Wrote a 0 (side_line s) b to
 told e p = rw e p
 
-enum_told : tie.Need-enum-told
+enum_told : tie.Need-enum_told-1
 enum_told c = search rules
 
 slice-aggregate-word : tie.Need-slice-aggregate-word
@@ -23,71 +23,71 @@ slice-aggregate-word c = search rules
 word-requires : tie.Need-word-requires
 word-requires c κs = search rules
 
-enum-told-2 : tie.Need-enum-told-2
+enum-told-2 : tie.Need-enum_told-in-Right
 enum-told-2 c = search rules
 
 slice-aggregate-word-2 : tie.Need-slice-aggregate-word-2
 slice-aggregate-word-2 c = search rules
 
-word-requires-2 : tie.Need-word-requires-2
+word-requires-2 : tie.Need-word-requires-in-Right
 word-requires-2 c κs = search rules
 
-enum-told-3 : tie.Need-enum-told-3
+enum-told-3 : tie.Need-enum_told-in-Top
 enum-told-3 c = search rules
 
 slice-aggregate-word-3 : tie.Need-slice-aggregate-word-3
 slice-aggregate-word-3 c = search rules
 
-word-requires-3 : tie.Need-word-requires-3
+word-requires-3 : tie.Need-word-requires-in-Top
 word-requires-3 c κs = search rules
 
-enum-told-4 : tie.Need-enum-told-4
+enum-told-4 : tie.Need-enum_told-in-Bottom
 enum-told-4 c = search rules
 
 slice-aggregate-word-4 : tie.Need-slice-aggregate-word-4
 slice-aggregate-word-4 c = search rules
 
-word-requires-4 : tie.Need-word-requires-4
+word-requires-4 : tie.Need-word-requires-in-Bottom
 word-requires-4 c κs = search rules
 
-same_length : tie.Need-same-length
+same_length : tie.Need-shape_of-room-in-Left
 same_length c = search rules
 
-returns : tie.Need-returns
+returns : tie.Need-returns-in-Left
 returns c =
     let w = c.before.before in
-    let t : tie.After-enum-told = search rules in
-    (told {t = Left} t.enum_told.given.1 w.word.ensures, omega (arith, w.word.ensures.place))
+    let t : tie.In-Left = search rules in
+    (told {t = Left} t.enum_told-1.given.1 w.word.ensures, omega (arith, w.word.ensures.place))
 
-same-length-2 : tie.Need-same-length-2
+same-length-2 : tie.Need-shape_of-room-in-Right
 same-length-2 c = search rules
 
-returns-2 : tie.Need-returns-2
+returns-2 : tie.Need-returns-in-Right
 returns-2 c =
     let w = c.before.before in
-    let t : tie.After-enum-told2 = search rules in
-    (told {t = Right} t.enum-told2.given.1 w.word2.ensures, omega (arith, w.word2.ensures.place))
+    let t : tie.In-Right = search rules in
+    (told {t = Right} t.enum_told-in-Right-1.given.1 w.word-in-Right.ensures, omega (arith, w.word-in-Right.ensures.place))
 
-same-length-3 : tie.Need-same-length-3
+same-length-3 : tie.Need-shape_of-room-in-Top
 same-length-3 c = search rules
 
-returns-3 : tie.Need-returns-3
+returns-3 : tie.Need-returns-in-Top
 returns-3 c =
     let w = c.before.before in
-    let t : tie.After-enum-told3 = search rules in
-    (told {t = Top} t.enum-told3.given.1 w.word3.ensures, omega (arith, w.word3.ensures.place))
+    let t : tie.In-Top = search rules in
+    (told {t = Top} t.enum_told-in-Top-1.given.1 w.word-in-Top.ensures, omega (arith, w.word-in-Top.ensures.place))
 
-same-length-4 : tie.Need-same-length-4
+same-length-4 : tie.Need-shape_of-room-in-Bottom
 same-length-4 c = search rules
 
-returns-4 : tie.Need-returns-4
+returns-4 : tie.Need-returns-in-Bottom
 returns-4 c =
     let w = c.before.before in
-    let t : tie.After-enum-told4 = search rules in
-    (told {t = Bottom} t.enum-told4.given.1 w.word4.ensures, omega (arith, w.word4.ensures.place))
+    let t : tie.In-Bottom = search rules in
+    (told {t = Bottom} t.enum_told-in-Bottom-1.given.1 w.word-in-Bottom.ensures, omega (arith, w.word-in-Bottom.ensures.place))
 
-pub side-line-spec : {M : Type 1} → statement M
-side-line-spec =
+pub side_line_spec : {M : Type 1} → statement M
+side_line_spec =
     tie.close
     (tie.spec
     enum_told

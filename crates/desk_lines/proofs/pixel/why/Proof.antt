@@ -28,60 +28,60 @@ module _ (settings frame : List ℕ) (row column : ℕ) where
       → explanation_line x ≡ why_text settings frame row column
   read-line s x e f = ap explanation_line f ∙ line_of e
 
-returns : tie.Need-returns
+returns : tie.Need-returns-then-room-lt-LINE
 returns c =
-    let s = room-short 128 _ _ c.if1.true in
+    let s = room-short 128 _ _ c.if-room-lt-LINE.true in
     (s.0, (s.1, omega arith))
 
-read-settings-requires : tie.Need-read-settings-requires
+read-settings-requires : tie.Need-read_settings-reading-requires
 read-settings-requires c κs = search rules
 
-enum-known-reading : tie.Need-enum-known-reading
+enum-known-reading : tie.Need-enum_known-reading
 enum-known-reading c = search rules
 
 refused-requires : tie.Need-refused-requires
 refused-requires c κs = search rules
 
-enum-known-reading-2 : tie.Need-enum-known-reading-2
+enum-known-reading-2 : tie.Need-enum_known-reading-in-Read-1
 enum-known-reading-2 c = search rules
 
-explain-requires : tie.Need-explain-requires
+explain-requires : tie.Need-explain-explanation-requires
 explain-requires c κs = search rules
 
 line-requires : tie.Need-line-requires
 line-requires c κs = search rules
 
-same_length : tie.Need-same-length
+same_length : tie.Need-shape_of-room-in-Refused
 same_length c = search rules
 
-returns-2 : tie.Need-returns-2
+returns-2 : tie.Need-returns-in-Refused
 returns-2 c =
     let w = c.before.before in
-    let k : tie.After-reading = search rules in
-    let f : tie.After-read-settings = search rules in
-    let e : tie.Else1 = search rules in
+    let k : tie.In-Refused-2 = search rules in
+    let f : tie.After-read_settings-reading = search rules in
+    let e : tie.Else-room-lt-LINE = search rules in
     let a : tie.Start = search rules in
-    let t = refused-line a.args.settings.now a.args.frame.now a.args.row a.args.column _ (sym f.read-settings.ensures.0
-    ∙ k.reading.given.1) in
-    room-told 128 _ _ _ _ _ 72 e.if1.left (omega (arith, w.refused.ensures.1)) (omega arith) t w.refused.ensures.0
+    let t = refused-line a.args.settings.now a.args.frame.now a.args.row a.args.column _ (sym f.read_settings-reading.ensures.0
+    ∙ k.reading-1.given.1) in
+    room-told 128 _ _ _ _ _ 72 e.if-room-lt-LINE.left (omega (arith, w.refused.ensures.1)) (omega arith) t w.refused.ensures.0
 
-same-length-2 : tie.Need-same-length-2
+same-length-2 : tie.Need-shape_of-room-in-Read
 same-length-2 c = search rules
 
-returns-3 : tie.Need-returns-3
+returns-3 : tie.Need-returns-in-Read
 returns-3 c =
     let w = c.before.before in
-    let x : tie.After-explain = search rules in
-    let k : tie.After-reading2 = search rules in
-    let f : tie.After-read-settings = search rules in
-    let e : tie.Else1 = search rules in
+    let x : tie.After-explain-explanation = search rules in
+    let k : tie.In-Read-2 = search rules in
+    let f : tie.After-read_settings-reading = search rules in
+    let e : tie.Else-room-lt-LINE = search rules in
     let a : tie.Start = search rules in
-    let t = read-line a.args.settings.now a.args.frame.now a.args.row a.args.column _ _ (sym f.read-settings.ensures.0
-    ∙ k.reading2.given.1) x.explain.ensures in
-    room-told 128 _ _ _ _ _ 72 e.if1.left w.line.ensures.1 (omega arith) t w.line.ensures.0
+    let t = read-line a.args.settings.now a.args.frame.now a.args.row a.args.column _ _ (sym f.read_settings-reading.ensures.0
+    ∙ k.reading-in-Read-1.given.1) x.explain-explanation.ensures in
+    room-told 128 _ _ _ _ _ 72 e.if-room-lt-LINE.left w.line.ensures.1 (omega arith) t w.line.ensures.0
 
-pub why-spec : {M : Type 1} → statement M
-why-spec =
+pub why_spec : {M : Type 1} → statement M
+why_spec =
     tie.close
     (tie.spec
     returns

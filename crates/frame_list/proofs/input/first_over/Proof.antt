@@ -8,16 +8,16 @@ use Rattle.frame_list.proofs.input.first_over.Tie as tie
 largest-requires : tie.Need-largest-requires
 largest-requires c κs = search rules
 
-returns : tie.Need-returns
+returns : tie.Need-returns-then-largest-le-LARGEST
 returns c =
     let g = c.before in
     over-end g.before.before.args.samples.now (λ k h. omega (arith, g.largest.ensures k h))
 
-look-for-over-requires : tie.Need-look-for-over-requires
+look-for-over-requires : tie.Need-look_for_over-requires
 look-for-over-requires c κs = search rules
 
-returns-2 : tie.Need-returns-2
+returns-2 : tie.Need-returns
 returns-2 c = search rules
 
-pub first-over-spec : {M : Type 1} → statement M
-first-over-spec = tie.close (tie.spec largest-requires returns look-for-over-requires returns-2)
+pub first_over_spec : {M : Type 1} → statement M
+first_over_spec = tie.close (tie.spec largest-requires returns look-for-over-requires returns-2)

@@ -14,11 +14,11 @@ use Rattle.frame_list.proofs.input.frame_outcome.Statement.{statement}
 use Rattle.frame_list.proofs.input.frame_outcome.Tie as tie
 
 -- the tests that the ways on have passed
-size-right : (c : tie.Else1) → let a = c.before.before.before.args in size_out a.width a.height ≡ false
-size-right c = sym c.before.Size-ok.ensures ∙ c.if1.false
+size-right : (c : tie.Else-not-size_ok) → let a = c.before.before.before.args in size_out a.width a.height ≡ false
+size-right c = sym c.before.Size-ok.ensures ∙ c.if-not-size_ok.false
 
-threshold-ok : (c : tie.Else3) → within 1 4095 c.before.before.before.before.before.before.args.threshold ≡ true
-threshold-ok c = sym c.before.is_Within.ensures ∙ not-false _ c.if3.false
+threshold-ok : (c : tie.Else-not-is_within) → within 1 4095 c.before.before.before.before.before.before.args.threshold ≡ true
+threshold-ok c = sym c.before.is_Within.ensures ∙ not-false _ c.if-not-is_within.false
 
 -- the second promise follows from the first
 told : (s : tie.Start) {o : Outcome} → let a = s.args in o ≡ first_applying (frame_rows a.samples.now a.width a.height a.threshold)
@@ -26,51 +26,51 @@ told : (s : tie.Start) {o : Outcome} → let a = s.args in o ≡ first_applying 
     × (answer_of o ≡ frame_answer a.samples.now a.width a.height a.threshold (accepted_with []))
 told s e = frame-told s.args.samples.now s.args.width s.args.height s.args.threshold e
 
-size-ok-requires : tie.Need-size-ok-requires
+size-ok-requires : tie.Need-size_ok-requires
 size-ok-requires c κs = search rules
 
 plain-requires : tie.Need-plain-requires
 plain-requires c κs = search rules
 
-returns : tie.Need-returns
+returns : tie.Need-returns-then-not-size_ok
 unfolding first_applying
-returns c = told c.before.before.before.before (rw (sym c.before.before.Size-ok.ensures ∙ c.before.if1.true) c.plain.ensures)
+returns c = told c.before.before.before.before (rw (sym c.before.before.Size-ok.ensures ∙ c.before.if-not-size_ok.true) c.plain.ensures)
 
-mul-if2 : tie.Need-overflow-mul-if2
+mul-if2 : tie.Need-overflow_mul-width
 mul-if2 c = let a = c.before.before.before.args in omega (arith, size-most a.width a.height (size-right c))
 
-plain-requires-2 : tie.Need-plain-requires-2
+plain-requires-2 : tie.Need-plain-requires-then-samples-width
 plain-requires-2 c κs = search rules
 
-returns-2 : tie.Need-returns-2
+returns-2 : tie.Need-returns-then-samples-width
 unfolding first_applying
-returns-2 c = told c.before.before.before.before.before (rw (size-right c.before.before, ne_eqb _ _ c.before.if2.true) c.plain2.ensures)
+returns-2 c = told c.before.before.before.before.before (rw (size-right c.before.before, ne_eqb _ _ c.before.if-samples-width.true) c.plain-then-samples-width.ensures)
 
-is-within-requires : tie.Need-is-within-requires
+is-within-requires : tie.Need-is_within-requires
 is-within-requires c κs = search rules
 
-plain-requires-3 : tie.Need-plain-requires-3
+plain-requires-3 : tie.Need-plain-requires-then-not-is_within
 plain-requires-3 c κs = search rules
 
-returns-3 : tie.Need-returns-3
+returns-3 : tie.Need-returns-then-not-is_within
 unfolding first_applying
 returns-3 c =
     let t = c.before in
     let l = t.before.before in
     told l.before.before.before.before (rw (
       size-right l.before,
-      eq-eqb _ _ l.if2.false,
+      eq-eqb _ _ l.if-samples-width.false,
       sym t.before.is_Within.ensures
-          ∙ not-true _ t.if3.true,
-    ) c.plain3.ensures)
+          ∙ not-true _ t.if-not-is_within.true,
+    ) c.plain-then-not-is_within.ensures)
 
-first-over-requires : tie.Need-first-over-requires
+first-over-requires : tie.Need-first_over-place-requires
 first-over-requires c κs = search rules
 
 at-requires : tie.Need-at-requires
 at-requires c κs = search rules
 
-returns-4 : tie.Need-returns-4
+returns-4 : tie.Need-returns-then-place-samples
 unfolding first_applying
 returns-4 c =
     let f = c.before.before in
@@ -78,13 +78,13 @@ returns-4 c =
     let l = t.before.before in
     told l.before.before.before.before (rw (
       size-right l.before,
-      eq-eqb _ _ l.if2.false,
+      eq-eqb _ _ l.if-samples-width.false,
       threshold-ok t,
-      ← f.first-over.ensures,
-      lt-ltb _ _ c.before.if4.true,
+      ← f.first_over-place.ensures,
+      lt-ltb _ _ c.before.if-place-samples.true,
     ) c.at.ensures)
 
-returns-5 : tie.Need-returns-5
+returns-5 : tie.Need-returns
 unfolding first_applying
 returns-5 c =
     let f = c.before in
@@ -92,14 +92,14 @@ returns-5 c =
     let l = t.before.before in
     told l.before.before.before.before (rw (
       size-right l.before,
-      eq-eqb _ _ l.if2.false,
+      eq-eqb _ _ l.if-samples-width.false,
       threshold-ok t,
-      ← f.first-over.ensures,
-      le-ltb _ _ c.if4.false,
+      ← f.first_over-place.ensures,
+      le-ltb _ _ c.if-place-samples.false,
     ))
 
-pub frame-outcome-spec : {M : Type 1} → statement M
-frame-outcome-spec =
+pub frame_outcome_spec : {M : Type 1} → statement M
+frame_outcome_spec =
     tie.close
     (tie.spec
     size-ok-requires

@@ -7,40 +7,40 @@ use lib.ListN.{length, get_or}
 use Rattle.frame_list.proofs.input.largest.Statement.{statement}
 use Rattle.frame_list.proofs.input.largest.Tie as tie
 
-abbrev invariant-loop : tie.invariant-loop
+abbrev invariant-loop : tie.invariant-loop-i
 invariant-loop samples most₀ i₀ most i = (i ≤ length samples) × ((k : ℕ) → k < i → get_or samples k 0 ≤ most)
 
-abbrev decreases-loop : tie.decreases-loop
+abbrev decreases-loop : tie.decreases-loop-i
 decreases-loop samples most₀ i₀ most i = length samples - i
 
-loop-holds : tie.Need-loop-init invariant-loop decreases-loop
+loop-holds : tie.Need-loop-i-init invariant-loop decreases-loop
 loop-holds c = search rules
 
-mul-larger : tie.Need-overflow-mul-larger invariant-loop decreases-loop
+mul-larger : tie.Need-offset_bounds-samples-i invariant-loop decreases-loop
 mul-larger c = search rules
 
-shared-slice-read-larger : tie.Need-shared-slice-read-larger invariant-loop decreases-loop
+shared-slice-read-larger : tie.Need-bounds-samples-i invariant-loop decreases-loop
 shared-slice-read-larger c = search rules
 
-larger-requires : tie.Need-larger-requires invariant-loop decreases-loop
+larger-requires : tie.Need-larger-most-requires invariant-loop decreases-loop
 larger-requires c κs = search rules
 
-add-i : tie.Need-overflow-add-i invariant-loop decreases-loop
+add-i : tie.Need-overflow_add-i invariant-loop decreases-loop
 add-i c = search rules
 
-loop-less : tie.Need-loop-smaller invariant-loop decreases-loop
+loop-less : tie.Need-loop-i-smaller invariant-loop decreases-loop
 loop-less c = search rules
 
-loop-again : tie.Need-loop-preserved invariant-loop decreases-loop
+loop-again : tie.Need-loop-i-preserved invariant-loop decreases-loop
 loop-again c =
     let p = c.before.before.before in
-    (omega arith, below_more _ _ (λ k h. omega (arith, p.loop.invariant.1 k h)) c.larger.ensures.1)
+    (omega arith, below_more _ _ (λ k h. omega (arith, p.loop-i.invariant.1 k h)) c.larger-most.ensures.1)
 
 returns : tie.Need-returns invariant-loop decreases-loop
-returns c = λ k h. c.before.loop.invariant.1 k (omega arith)
+returns c = λ k h. c.before.loop-i.invariant.1 k (omega arith)
 
-pub largest-spec : {M : Type 1} → statement M
-largest-spec =
+pub largest_spec : {M : Type 1} → statement M
+largest_spec =
     tie.close
     (tie.spec
     invariant-loop

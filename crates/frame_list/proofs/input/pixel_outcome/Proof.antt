@@ -10,64 +10,64 @@ use Rattle.frame_list.proofs.input.pixel_outcome.Statement.{statement}
 use Rattle.frame_list.proofs.input.pixel_outcome.Tie as tie
 
 -- past the frame's own tests
-accepted : (c : tie.After-enum-told2)
+accepted : (c : tie.In-Accepted)
     → let a = c.before.before.before.before.args in
     first_applying (frame_rows a.samples.now a.width a.height a.threshold) ≡ Accepted
-accepted c = sym c.before.before.frame-outcome.ensures.0 ∙ c.enum-told2.given.1
+accepted c = sym c.before.before.frame_outcome-outcome.ensures.0 ∙ c.enum_told-in-Accepted-1.given.1
 
-frame-outcome-requires : tie.Need-frame-outcome-requires
+frame-outcome-requires : tie.Need-frame_outcome-outcome-requires
 frame-outcome-requires c κs = search rules
 
-enum_told : tie.Need-enum-told
+enum_told : tie.Need-enum_told-1
 enum_told c = search rules
 
-enum-told-2 : tie.Need-enum-told-2
+enum-told-2 : tie.Need-enum_told-in-Accepted
 enum-told-2 c = search rules
 
 plain-requires : tie.Need-plain-requires
 plain-requires c κs = search rules
 
-returns : tie.Need-returns
+returns : tie.Need-returns-then-height-row
 returns c =
     let o = c.before.before in
     let a = o.before.before.before.before.args in
     pixel-told a.samples.now a.width a.height a.threshold a.row a.column
     (c.plain.ensures
-    ∙ sym (pixel-outside a.samples.now a.width a.height a.threshold a.row a.column (accepted o) (rw (le-leb _ _ c.before.if1.true))))
+    ∙ sym (pixel-outside a.samples.now a.width a.height a.threshold a.row a.column (accepted o) (rw (le-leb _ _ c.before.if-height-row.true))))
 
-plain-requires-2 : tie.Need-plain-requires-2
+plain-requires-2 : tie.Need-plain-requires-then-width-column
 plain-requires-2 c κs = search rules
 
-returns-2 : tie.Need-returns-2
+returns-2 : tie.Need-returns-then-width-column
 returns-2 c =
     let o = c.before.before.before in
     let a = o.before.before.before.before.args in
     pixel-told a.samples.now a.width a.height a.threshold a.row a.column
-    (c.plain2.ensures
+    (c.plain-then-width-column.ensures
     ∙ sym
     (pixel-outside a.samples.now a.width a.height a.threshold a.row a.column (accepted o)
-    (rw (lt-leb _ _ c.before.before.if1.false, le-leb _ _ c.before.if2.true))))
+    (rw (lt-leb _ _ c.before.before.if-height-row.false, le-leb _ _ c.before.if-width-column.true))))
 
-returns-3 : tie.Need-returns-3
+returns-3 : tie.Need-returns-in-Refused
 returns-3 c =
-    let o = c.before.before.frame-outcome in
+    let o = c.before.before.frame_outcome-outcome in
     let a = c.before.before.before.before.args in
-    let g = c.enum_told.given in
+    let g = c.enum_told-1.given in
     pixel-told a.samples.now a.width a.height a.threshold a.row a.column
     (g.1 ∙ sym (pixel-refused a.samples.now a.width a.height a.threshold a.row a.column _ (sym o.ensures.0 ∙ g.1)))
 
-returns-4 : tie.Need-returns-4
+returns-4 : tie.Need-returns-else-width-column
 returns-4 c =
     let o = c.before.before in
     let a = o.before.before.before.before.args in
     pixel-told a.samples.now a.width a.height a.threshold a.row a.column
-    (o.enum-told2.given.1
+    (o.enum_told-in-Accepted-1.given.1
     ∙ sym
     (pixel-inside a.samples.now a.width a.height a.threshold a.row a.column (accepted o)
-    (rw (lt-leb _ _ c.before.if1.false, lt-leb _ _ c.if2.false))))
+    (rw (lt-leb _ _ c.before.if-height-row.false, lt-leb _ _ c.if-width-column.false))))
 
-pub pixel-outcome-spec : {M : Type 1} → statement M
-pixel-outcome-spec =
+pub pixel_outcome_spec : {M : Type 1} → statement M
+pixel_outcome_spec =
     tie.close
     (tie.spec
     frame-outcome-requires

@@ -48,51 +48,51 @@ module _ (g : Guider) (r : Report) (i : ℕ) (guide : Guide) (e : guide ≡ guid
       unfolding guide_after follows
       alone t = ap (λ (x : Guide). moved x sight.star) e ∙ rw (lt-ltb _ 5 alive, eq-eqb _ _ one, said t) (ap (moved (guide_at g i)) (told.single o))
 
-returns : tie.Need-returns
+returns : tie.Need-returns-then-guide-ge-DROPPED
 returns c =
     let s = c.before.before in
     let a = s.args in
-    stays a.guider a.report a.i a.guide s.requires.2 c.if1.true
+    stays a.guider a.report a.i a.guide s.requires.2 c.if-guide-ge-DROPPED.true
 
-look-requires : tie.Need-look-requires
+look-requires : tie.Need-look-sight-requires
 look-requires c κs = search rules
 
 missed-requires : tie.Need-missed-requires
 missed-requires c κs = search rules
 
-returns-2 : tie.Need-returns-2
+returns-2 : tie.Need-returns-then-sight-ne1
 returns-2 c =
     let s = c.before.before.before.before.before.before in
     let a = s.args in
     let k = c.before.before.before.look in
-    c.missed.ensures ∙ not-one a.guider a.report a.i a.guide s.requires.2 (omega arith) k.result k.ensures c.before.if2.true
+    c.missed.ensures ∙ not-one a.guider a.report a.i a.guide s.requires.2 (omega arith) k.result k.ensures c.before.if-sight-ne1.true
 
-is-shared-requires : tie.Need-is-shared-requires
+is-shared-requires : tie.Need-is_shared-requires
 is-shared-requires c κs = search rules
 
-missed-requires-2 : tie.Need-missed-requires-2
+missed-requires-2 : tie.Need-missed-requires-then-is_shared
 missed-requires-2 c κs = search rules
 
-returns-3 : tie.Need-returns-3
+returns-3 : tie.Need-returns-then-is_shared
 returns-3 c =
     let s = c.before.before.before.before.before.before.before.before.before in
     let a = s.args in
     let k = c.before.before.before.before.before.before.look in
     let h = c.before.before.is_shared in
-    c.missed2.ensures
-    ∙ not-alone a.guider a.report a.i a.guide s.requires.2 (omega arith) k.result k.ensures c.before.before.before.before.if2.false
-    (sym h.ensures ∙ c.before.if3.true)
+    c.missed-then-is_shared.ensures
+    ∙ not-alone a.guider a.report a.i a.guide s.requires.2 (omega arith) k.result k.ensures c.before.before.before.before.if-sight-ne1.false
+    (sym h.ensures ∙ c.before.if-is_shared.true)
 
-returns-4 : tie.Need-returns-4
+returns-4 : tie.Need-returns
 returns-4 c =
     let s = c.before.before.before.before.before.before.before.before in
     let a = s.args in
     let k = c.before.before.before.before.before.look in
     let h = c.before.is_shared in
-    alone a.guider a.report a.i a.guide s.requires.2 (omega arith) k.result k.ensures c.before.before.before.if2.false
-    (sym h.ensures ∙ c.if3.false)
+    alone a.guider a.report a.i a.guide s.requires.2 (omega arith) k.result k.ensures c.before.before.before.if-sight-ne1.false
+    (sym h.ensures ∙ c.if-is_shared.false)
 
-pub guide-after-spec : {M : Type 1} → statement M
-guide-after-spec =
+pub guide_after_spec : {M : Type 1} → statement M
+guide_after_spec =
     tie.close
     (tie.spec returns look-requires missed-requires returns-2 is-shared-requires missed-requires-2 returns-3 returns-4)

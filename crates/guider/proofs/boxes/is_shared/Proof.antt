@@ -13,41 +13,41 @@ use Rattle.guider_rule.specs.Guider.{claims, shared}
 use Rattle.guider.proofs.boxes.is_shared.Statement.{statement}
 use Rattle.guider.proofs.boxes.is_shared.Tie as tie
 
-abbrev invariant-loop : tie.invariant-loop
+abbrev invariant-loop : tie.invariant-loop-j
 invariant-loop guider i star guides j₀ j = (j ≤ guider.count) × ((m : ℕ) → m < j → not (eqb m i) && claims guider star m ≡ false)
 
-abbrev decreases-loop : tie.decreases-loop
+abbrev decreases-loop : tie.decreases-loop-j
 decreases-loop guider i star guides j₀ j = guider.count - j
 
-loop-holds : tie.Need-loop-init invariant-loop decreases-loop
+loop-holds : tie.Need-loop-j-init invariant-loop decreases-loop
 loop-holds c = (search rules, below_none _)
 
-mul-guide : tie.Need-overflow-mul-guide invariant-loop decreases-loop
+mul-guide : tie.Need-offset_bounds-guides-j invariant-loop decreases-loop
 mul-guide c = search rules
 
-array-copy-out-guide : tie.Need-array-copy-out-guide invariant-loop decreases-loop
+array-copy-out-guide : tie.Need-bounds-guides-j invariant-loop decreases-loop
 array-copy-out-guide c = search rules
 
-is-claimed-requires : tie.Need-is-claimed-requires invariant-loop decreases-loop
+is-claimed-requires : tie.Need-is_claimed-requires invariant-loop decreases-loop
 is-claimed-requires c κs = search rules
 
-returns : tie.Need-returns invariant-loop decreases-loop
+returns : tie.Need-returns-then-is_claimed invariant-loop decreases-loop
 unfolding shared
 returns c =
-    let f = c.before.is-claimed in
-    let l = c.before.before.before.before.before.before.loop in
-    sym (tests.some_of _ _ l.j (omega arith) (tests.and_both _ _ (ap not (ne_eqb _ _ c.before.before.before.if2.true))
-    (sym f.ensures ∙ c.if3.true)))
+    let f = c.before.is_claimed in
+    let l = c.before.before.before.before.before.before.loop-j in
+    sym (tests.some_of _ _ l.j (omega arith) (tests.and_both _ _ (ap not (ne_eqb _ _ c.before.before.before.if-j-i.true))
+    (sym f.ensures ∙ c.if-is_claimed.true)))
 
-add-j : tie.Need-overflow-add-j invariant-loop decreases-loop
+add-j : tie.Need-overflow_add-j invariant-loop decreases-loop
 add-j c = search rules
 
-loop-less : tie.Need-loop-smaller invariant-loop decreases-loop
+loop-less : tie.Need-loop-j-smaller invariant-loop decreases-loop
 loop-less c = search rules
 
-loop-again : tie.Need-loop-preserved invariant-loop decreases-loop
+loop-again : tie.Need-loop-j-preserved invariant-loop decreases-loop
 loop-again c =
-    let l = c.before.before.before.loop in
+    let l = c.before.before.before.loop-j in
     let a = c.before.before.before.before.before.args in
     let other = not (eqb l.j a.i) in
     let claimed = claims a.guider a.star l.j in (
@@ -56,17 +56,17 @@ loop-again c =
           (⊎_elim
           (λ w. tests.and-false other claimed (inr (sym w.2.ensures ∙ w.3.left)))
           (λ w. tests.and-false other claimed (inl (ap not (eq-eqb _ _ w.left))))
-          c.if2.branch),
+          c.if-j-i.branch),
     )
 
-returns-2 : tie.Need-returns-2 invariant-loop decreases-loop
+returns-2 : tie.Need-returns invariant-loop decreases-loop
 unfolding shared
 returns-2 c =
-    let l = c.before.before.loop in
+    let l = c.before.before.loop-j in
     sym (tests.some-none _ _ (λ m h. l.invariant.1 m (omega arith)))
 
-pub is-shared-spec : {M : Type 1} → statement M
-is-shared-spec =
+pub is_shared_spec : {M : Type 1} → statement M
+is_shared_spec =
     tie.close
     (tie.spec
     invariant-loop

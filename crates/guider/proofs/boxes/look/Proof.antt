@@ -15,43 +15,43 @@ use Rattle.guider.specs.boxes.Sight.{holds}
 use Rattle.guider.proofs.boxes.look.Statement.{statement}
 use Rattle.guider.proofs.boxes.look.Tie as tie
 
-abbrev invariant-loop : tie.invariant-loop
+abbrev invariant-loop : tie.invariant-loop-k
 invariant-loop half guide report stars n₀ last₀ k₀ n last k =
     (k ≤ report.count) × (n ≡ number k (holds half guide report)) × (last < 8) × (1 ≤ n → (last < k) × (holds half guide report last ≡ true))
 
-abbrev decreases-loop : tie.decreases-loop
+abbrev decreases-loop : tie.decreases-loop-k
 decreases-loop half guide report stars n₀ last₀ k₀ n last k = report.count - k
 
-loop-holds : tie.Need-loop-init invariant-loop decreases-loop
+loop-holds : tie.Need-loop-k-init invariant-loop decreases-loop
 unfolding number
 loop-holds c = (search rules, refl, search rules, λ h. absurd (omega arith))
 
-mul-star : tie.Need-overflow-mul-star invariant-loop decreases-loop
+mul-star : tie.Need-offset_bounds-stars-k invariant-loop decreases-loop
 mul-star c = search rules
 
-array-copy-out-star : tie.Need-array-copy-out-star invariant-loop decreases-loop
+array-copy-out-star : tie.Need-bounds-stars-k invariant-loop decreases-loop
 array-copy-out-star c = search rules
 
-in-box-requires : tie.Need-in-box-requires invariant-loop decreases-loop
+in-box-requires : tie.Need-in_box-requires invariant-loop decreases-loop
 in-box-requires c κs = search rules
 
-add-n : tie.Need-overflow-add-n invariant-loop decreases-loop
+add-n : tie.Need-overflow_add-n invariant-loop decreases-loop
 add-n c =
     let a = c.before.before.before.before.before.before.before.args in
-    omega (arith, number-most c.before.before.before.before.before.loop.k (holds a.half a.guide a.report))
+    omega (arith, number-most c.before.before.before.before.before.loop-k.k (holds a.half a.guide a.report))
 
-add-k : tie.Need-overflow-add-k invariant-loop decreases-loop
+add-k : tie.Need-overflow_add-k invariant-loop decreases-loop
 add-k c = search rules
 
-loop-less : tie.Need-loop-smaller invariant-loop decreases-loop
+loop-less : tie.Need-loop-k-smaller invariant-loop decreases-loop
 loop-less c = search rules
 
-loop-again : tie.Need-loop-preserved invariant-loop decreases-loop
+loop-again : tie.Need-loop-k-preserved invariant-loop decreases-loop
 loop-again c =
-    let l = c.before.before.before.before.before.loop in
+    let l = c.before.before.before.before.before.loop-k in
     let a = c.before.before.before.before.before.before.before.args in
     let f = holds a.half a.guide a.report in
-    let e : f l.k ≡ c.before.in-box.result = sym c.before.in-box.ensures in
+    let e : f l.k ≡ c.before.in_box.result = sym c.before.in_box.ensures in
     let m = number-next l.k f in
     ⊎_elim
     (λ w.
@@ -61,12 +61,12 @@ loop-again c =
     (λ w.
     let o : one (f l.k) ≡ 0 = ap one (e ∙ w.0.left) in
     (omega arith, omega arith, omega arith, λ h. let q = l.invariant.3 (omega arith) in (omega arith, ap f w.2 ∙ q.1)))
-    c.if2.branch
+    c.if-in_box.branch
 
-mul-found : tie.Need-overflow-mul-found invariant-loop decreases-loop
+mul-found : tie.Need-offset_bounds-stars-last invariant-loop decreases-loop
 mul-found c = search rules
 
-array-copy-out-found : tie.Need-array-copy-out-found invariant-loop decreases-loop
+array-copy-out-found : tie.Need-bounds-stars-last invariant-loop decreases-loop
 array-copy-out-found c = search rules
 
 -- the only one is the first
@@ -77,7 +77,7 @@ the-only n test k e h t =
 
 returns : tie.Need-returns invariant-loop decreases-loop
 returns c =
-    let l = c.before.before.before.loop in
+    let l = c.before.before.before.loop-k in
     let a = c.before.before.before.before.before.args in
     let f = holds a.half a.guide a.report in
     let e : l.k ≡ a.report.count = omega arith in

@@ -12,82 +12,82 @@ use Rattle.guider.specs.Identities.{same-rule}
 use Rattle.guider.proofs.check.guider_ok.Statement.{statement}
 use Rattle.guider.proofs.check.guider_ok.Tie as tie
 
-abbrev invariant-loop : tie.invariant-loop
+abbrev invariant-loop : tie.invariant-loop-i
 invariant-loop guider guides identities i₀ i = (i ≤ guider.count) × (all i (guide_ok guider) ≡ true)
 
-abbrev decreases-loop : tie.decreases-loop
+abbrev decreases-loop : tie.decreases-loop-i
 decreases-loop guider guides identities i₀ i = guider.count - i
 
-returns : tie.Need-returns invariant-loop decreases-loop
+returns : tie.Need-returns-then-guider-gt-WIDEST invariant-loop decreases-loop
 unfolding guider_ok
-returns c = simp (lt-leb _ _ c.if1.true)
+returns c = simp (lt-leb _ _ c.if-guider-gt-WIDEST.true)
 
-returns-2 : tie.Need-returns-2 invariant-loop decreases-loop
+returns-2 : tie.Need-returns-then-guider-gt4 invariant-loop decreases-loop
 unfolding guider_ok
-returns-2 c = simp (le-leb _ _ c.before.before.if1.false, lt-leb _ _ c.if2.true)
+returns-2 c = simp (le-leb _ _ c.before.before.if-guider-gt-WIDEST.false, lt-leb _ _ c.if-guider-gt4.true)
 
-identities-of-requires : tie.Need-identities-of-requires invariant-loop decreases-loop
+identities-of-requires : tie.Need-identities_of-identities-requires invariant-loop decreases-loop
 identities-of-requires c κs = search rules
 
-loop-holds : tie.Need-loop-init invariant-loop decreases-loop
+loop-holds : tie.Need-loop-i-init invariant-loop decreases-loop
 unfolding all
 loop-holds c = (search rules, refl)
 
-mul-guide : tie.Need-overflow-mul-guide invariant-loop decreases-loop
+mul-guide : tie.Need-offset_bounds-guides-i invariant-loop decreases-loop
 mul-guide c = search rules
 
-array-copy-out-guide : tie.Need-array-copy-out-guide invariant-loop decreases-loop
+array-copy-out-guide : tie.Need-bounds-guides-i invariant-loop decreases-loop
 array-copy-out-guide c = search rules
 
-slice-aggregate-guide-ok : tie.Need-slice-aggregate-guide-ok invariant-loop decreases-loop
+slice-aggregate-guide-ok : tie.Need-slice_bounds-guide_ok-end invariant-loop decreases-loop
 slice-aggregate-guide-ok c = search rules
 
-guide-ok-requires : tie.Need-guide-ok-requires invariant-loop decreases-loop
+guide-ok-requires : tie.Need-guide_ok-requires invariant-loop decreases-loop
 guide-ok-requires c κs = search rules
 
 -- the list of identities says what the guides say
-told : (c : tie.After-guide-ok invariant-loop decreases-loop) → c.guide-ok.result ≡ guide_ok
+told : (c : tie.After-guide_ok invariant-loop decreases-loop) → c.guide_ok.result ≡ guide_ok
     c.before.before.before.before.before.before.before.before.before.before.before.before.args.guider
-    c.before.before.before.before.before.loop.i
+    c.before.before.before.before.before.loop-i.i
 told c =
     let m = c.before.before.before.before.before.before in
-    c.guide-ok.ensures ∙ same-rule m.before.before.before.before.before.before.args.guider m.identities-of.result m.identities-of.ensures
-    c.before.before.before.before.before.loop.i (omega arith)
+    c.guide_ok.ensures ∙ same-rule m.before.before.before.before.before.before.args.guider m.identities_of-identities.result m.identities_of-identities.ensures
+    c.before.before.before.before.before.loop-i.i (omega arith)
 
-returns-3 : tie.Need-returns-3 invariant-loop decreases-loop
+returns-3 : tie.Need-returns-then-not-guide_ok invariant-loop decreases-loop
 unfolding guider_ok
 returns-3 c =
     let g = c.before.before.before.before.before.before.before.before.before.before.before.before.before.args.guider in
     let t : all g.count (guide_ok g) ≡ false =
-    tests.all-false _ _ c.before.before.before.before.before.before.loop.i (omega arith) (sym (told c.before)
-    ∙ not-true c.before.guide-ok.result c.if4.true) in
+    tests.all-false _ _ c.before.before.before.before.before.before.loop-i.i (omega arith) (sym (told c.before)
+    ∙ not-true c.before.guide_ok.result c.if-not-guide_ok.true) in
     simp (
-      le-leb _ _ c.before.before.before.before.before.before.before.before.before.before.before.if1.false,
-      le-leb _ _ c.before.before.before.before.before.before.before.before.before.if2.false,
+      le-leb _ _ c.before.before.before.before.before.before.before.before.before.before.before.if-guider-gt-WIDEST.false,
+      le-leb _ _ c.before.before.before.before.before.before.before.before.before.if-guider-gt4.false,
       t,
     )
 
-add-i : tie.Need-overflow-add-i invariant-loop decreases-loop
+add-i : tie.Need-overflow_add-i invariant-loop decreases-loop
 add-i c = search rules
 
-loop-less : tie.Need-loop-smaller invariant-loop decreases-loop
+loop-less : tie.Need-loop-i-smaller invariant-loop decreases-loop
 loop-less c = search rules
 
-loop-again : tie.Need-loop-preserved invariant-loop decreases-loop
+loop-again : tie.Need-loop-i-preserved invariant-loop decreases-loop
 loop-again c = (
   omega arith,
-  tests.all_more _ _ c.before.before.before.before.before.before.loop.invariant.1 (sym (told c.before)
-      ∙ not-false c.before.guide-ok.result c.if4.false),
+  tests.all_more _ _ c.before.before.before.before.before.before.loop-i.invariant.1 (sym (told c.before)
+      ∙ not-false c.before.guide_ok.result c.if-not-guide_ok.false),
 )
 
-returns-4 : tie.Need-returns-4 invariant-loop decreases-loop
+returns-4 : tie.Need-returns invariant-loop decreases-loop
 unfolding guider_ok
 returns-4 c =
-    simp (le-leb _ _ c.before.before.before.before.before.before.before.if1.false, le-leb _ _ c.before.before.before.before.before.if2.false)
-    (sym (tests.all_of _ _ (λ m h. tests.all_true _ _ c.before.before.loop.invariant.1 m (omega arith))))
+    simp (le-leb _ _ c.before.before.before.before.before.before.before.if-guider-gt-WIDEST.false, le-leb _ _ c.before.before.before.before.before.if-guider-gt4.false)
+    (sym (tests.all_of _ _ (λ m h. tests.all_true _ _ c.before.before.loop-i.invariant.1 m (omega arith))))
 
-pub guider-ok-spec : {M : Type 1} → statement M
-guider-ok-spec =
+pub guider_ok_spec : {M : Type 1} → statement M
+guider_ok_spec =
     tie.close
     (tie.spec
     invariant-loop

@@ -20,23 +20,23 @@ each gs (suc (suc zero)) h = refl
 each gs (suc (suc (suc zero))) h = refl
 each gs (suc (suc (suc (suc i)))) h = absurd (omega arith)
 
-array-copy-out-first : tie.Need-array-copy-out-first
+array-copy-out-first : tie.Need-bounds-guides-0
 array-copy-out-first c = search rules
 
-array-copy-out-second : tie.Need-array-copy-out-second
+array-copy-out-second : tie.Need-bounds-guides-1
 array-copy-out-second c = search rules
 
-array-copy-out-third : tie.Need-array-copy-out-third
+array-copy-out-third : tie.Need-bounds-guides-2
 array-copy-out-third c = search rules
 
-array-copy-out-fourth : tie.Need-array-copy-out-fourth
+array-copy-out-fourth : tie.Need-bounds-guides-3
 array-copy-out-fourth c = search rules
 
 returns : tie.Need-returns
 returns c = each c.before.before.before.before.args.t1
 
-pub identities-of-spec : {M : Type 1} → statement M
-identities-of-spec =
+pub identities_of_spec : {M : Type 1} → statement M
+identities_of_spec =
     tie.close
     (tie.spec
     array-copy-out-first

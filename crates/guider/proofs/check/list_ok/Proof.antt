@@ -12,57 +12,57 @@ use Rattle.guider_rule.specs.Rule.{on_frame, list_ok}
 use Rattle.guider.proofs.check.list_ok.Statement.{statement}
 use Rattle.guider.proofs.check.list_ok.Tie as tie
 
-abbrev invariant-loop : tie.invariant-loop
+abbrev invariant-loop : tie.invariant-loop-k
 invariant-loop report stars k₀ k = (k ≤ report.count) × (all k (λ m. on_frame (star_at report m).x (star_at report m).y) ≡ true)
 
-abbrev decreases-loop : tie.decreases-loop
+abbrev decreases-loop : tie.decreases-loop-k
 decreases-loop report stars k₀ k = report.count - k
 
-returns : tie.Need-returns invariant-loop decreases-loop
+returns : tie.Need-returns-then-report-gt8 invariant-loop decreases-loop
 unfolding list_ok
-returns c = simp (lt-leb _ _ c.if1.true)
+returns c = simp (lt-leb _ _ c.if-report-gt8.true)
 
-loop-holds : tie.Need-loop-init invariant-loop decreases-loop
+loop-holds : tie.Need-loop-k-init invariant-loop decreases-loop
 unfolding all
 loop-holds c = (search rules, refl)
 
-mul-star : tie.Need-overflow-mul-star invariant-loop decreases-loop
+mul-star : tie.Need-offset_bounds-stars-k invariant-loop decreases-loop
 mul-star c = search rules
 
-array-copy-out-star : tie.Need-array-copy-out-star invariant-loop decreases-loop
+array-copy-out-star : tie.Need-bounds-stars-k invariant-loop decreases-loop
 array-copy-out-star c = search rules
 
-on-frame-requires : tie.Need-on-frame-requires invariant-loop decreases-loop
+on-frame-requires : tie.Need-on_frame-requires invariant-loop decreases-loop
 on-frame-requires c κs = search rules
 
-returns-2 : tie.Need-returns-2 invariant-loop decreases-loop
+returns-2 : tie.Need-returns-then-not-on_frame invariant-loop decreases-loop
 unfolding list_ok
 returns-2 c =
-    let f = c.before.on-frame in
+    let f = c.before.on_frame in
     let r = c.before.before.before.before.before.before.before.before.before.args.report in
     let t : all r.count (λ m. on_frame (star_at r m).x (star_at r m).y) ≡ false =
-    tests.all-false _ _ c.before.before.before.before.before.loop.k (omega arith) (sym f.ensures ∙ not-true f.result c.if3.true) in
-    simp (le-leb _ _ c.before.before.before.before.before.before.before.if1.false, t)
+    tests.all-false _ _ c.before.before.before.before.before.loop-k.k (omega arith) (sym f.ensures ∙ not-true f.result c.if-not-on_frame.true) in
+    simp (le-leb _ _ c.before.before.before.before.before.before.before.if-report-gt8.false, t)
 
-add-k : tie.Need-overflow-add-k invariant-loop decreases-loop
+add-k : tie.Need-overflow_add-k invariant-loop decreases-loop
 add-k c = search rules
 
-loop-less : tie.Need-loop-smaller invariant-loop decreases-loop
+loop-less : tie.Need-loop-k-smaller invariant-loop decreases-loop
 loop-less c = search rules
 
-loop-again : tie.Need-loop-preserved invariant-loop decreases-loop
+loop-again : tie.Need-loop-k-preserved invariant-loop decreases-loop
 loop-again c =
-    let f = c.before.on-frame in
-    (omega arith, tests.all_more _ _ c.before.before.before.before.before.loop.invariant.1 (sym f.ensures ∙ not-false f.result c.if3.false))
+    let f = c.before.on_frame in
+    (omega arith, tests.all_more _ _ c.before.before.before.before.before.loop-k.invariant.1 (sym f.ensures ∙ not-false f.result c.if-not-on_frame.false))
 
-returns-3 : tie.Need-returns-3 invariant-loop decreases-loop
+returns-3 : tie.Need-returns invariant-loop decreases-loop
 unfolding list_ok
 returns-3 c =
-    simp (le-leb _ _ c.before.before.before.before.if1.false) (sym
-    (tests.all_of _ _ (λ m h. tests.all_true _ _ c.before.before.loop.invariant.1 m (omega arith))))
+    simp (le-leb _ _ c.before.before.before.before.if-report-gt8.false) (sym
+    (tests.all_of _ _ (λ m h. tests.all_true _ _ c.before.before.loop-k.invariant.1 m (omega arith))))
 
-pub list-ok-spec : {M : Type 1} → statement M
-list-ok-spec =
+pub list_ok_spec : {M : Type 1} → statement M
+list_ok_spec =
     tie.close
     (tie.spec
     invariant-loop

@@ -9,19 +9,19 @@ use Rattle.listing.proofs.lines.counts.Tie as tie
 slice-aggregate-labelled : tie.Need-slice-aggregate-labelled
 slice-aggregate-labelled c = search rules
 
-labelled-requires : tie.Need-labelled-requires
+labelled-requires : tie.Need-labelled-measured-requires
 labelled-requires c κs = search rules
 
 slice-aggregate-labelled-2 : tie.Need-slice-aggregate-labelled-2
 slice-aggregate-labelled-2 c = search rules
 
-labelled-requires-2 : tie.Need-labelled-requires-2
+labelled-requires-2 : tie.Need-labelled-edge-requires
 labelled-requires-2 c κs = search rules
 
 slice-aggregate-labelled-3 : tie.Need-slice-aggregate-labelled-3
 slice-aggregate-labelled-3 c = search rules
 
-labelled-requires-3 : tie.Need-labelled-requires-3
+labelled-requires-3 : tie.Need-labelled-lone-requires
 labelled-requires-3 c κs = search rules
 
 slice-aggregate-word : tie.Need-slice-aggregate-word
@@ -30,7 +30,7 @@ slice-aggregate-word c = search rules
 word-requires : tie.Need-word-requires
 word-requires c κs = search rules
 
-same_length : tie.Need-same-length
+same_length : tie.Need-shape_of-room
 same_length c = search rules
 
 returns : tie.Need-returns
@@ -40,12 +40,12 @@ returns c =
     let w3 = w4.before.before.before.before.before in
     let w2 = w3.before.before.before.before.before in
     let w1 = w2.before.before.before.before.before in (
-      wrote_then (wrote_then (wrote_then w1.labelled.ensures.0 w2.labelled2.ensures.0) w3.labelled3.ensures.0) w4.word.ensures,
-      omega (arith, w1.labelled.ensures.1, w2.labelled2.ensures.1, w3.labelled3.ensures.1, w4.word.ensures.place),
+      wrote_then (wrote_then (wrote_then w1.labelled-measured.ensures.0 w2.labelled-edge.ensures.0) w3.labelled-lone.ensures.0) w4.word.ensures,
+      omega (arith, w1.labelled-measured.ensures.1, w2.labelled-edge.ensures.1, w3.labelled-lone.ensures.1, w4.word.ensures.place),
     )
 
-pub counts-spec : {M : Type 1} → statement M
-counts-spec =
+pub counts_spec : {M : Type 1} → statement M
+counts_spec =
     tie.close
     (tie.spec
     slice-aggregate-labelled

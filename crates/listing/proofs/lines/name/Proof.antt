@@ -33,14 +33,14 @@ slice-aggregate-word c = search rules
 word-requires : tie.Need-word-requires
 word-requires c κs = search rules
 
-same_length : tie.Need-same-length
+same_length : tie.Need-shape_of-room-then-not-names
 same_length c = search rules
 
-returns : tie.Need-returns
+returns : tie.Need-returns-then-not-names
 returns c =
     let w = c.before.before in
     let t = w.before.before.before in
-    (hidden t.before.before.before.args.names _ _ t.if1.true w.word.ensures, omega (arith, w.word.ensures.place))
+    (hidden t.before.before.before.args.names _ _ t.if-not-names.true w.word.ensures, omega (arith, w.word.ensures.place))
 
 records-requires : tie.Need-records-requires
 records-requires c κs = search rules
@@ -48,44 +48,44 @@ records-requires c κs = search rules
 slice-aggregate-word-2 : tie.Need-slice-aggregate-word-2
 slice-aggregate-word-2 c = search rules
 
-word-requires-2 : tie.Need-word-requires-2
+word-requires-2 : tie.Need-word-requires-then-records-i
 word-requires-2 c κs = search rules
 
-same-length-2 : tie.Need-same-length-2
+same-length-2 : tie.Need-shape_of-room-then-records-i
 same-length-2 c = search rules
 
-returns-2 : tie.Need-returns-2
+returns-2 : tie.Need-returns-then-records-i
 returns-2 c =
     let w = c.before.before in
     let t = w.before.before.before in (
-      nameless t.before.before.before.before.before.args.names _ _ t.before.before.if1.false
-          (omega (arith, t.before.records.ensures, t.if2.true)) w.word2.ensures,
-      omega (arith, w.word2.ensures.place),
+      nameless t.before.before.before.before.before.args.names _ _ t.before.before.if-not-names.false
+          (omega (arith, t.before.records.ensures, t.if-records-i.true)) w.word-then-records-i.ensures,
+      omega (arith, w.word-then-records-i.ensures.place),
     )
 
 identity-requires : tie.Need-identity-requires
 identity-requires c κs = search rules
 
-cast-number : tie.Need-overflow-cast-number
+cast-number : tie.Need-overflow_cast-identity
 cast-number c = search rules
 
 number-requires : tie.Need-number-requires
 number-requires c κs = search rules
 
-same-length-3 : tie.Need-same-length-3
+same-length-3 : tie.Need-shape_of-room
 same-length-3 c = search rules
 
-returns-3 : tie.Need-returns-3
+returns-3 : tie.Need-returns
 returns-3 c =
     let w = c.before.before in
     let t = w.before.before.before in (
-      identified t.before.before.before.before.before.args.names _ _ t.before.before.if1.false
-          (omega (arith, t.before.records.ensures, t.if2.false)) w.before.identity.ensures w.number.ensures.0,
+      identified t.before.before.before.before.before.args.names _ _ t.before.before.if-not-names.false
+          (omega (arith, t.before.records.ensures, t.if-records-i.false)) w.before.identity.ensures w.number.ensures.0,
       w.number.ensures.1,
     )
 
-pub name-spec : {M : Type 1} → statement M
-name-spec =
+pub name_spec : {M : Type 1} → statement M
+name_spec =
     tie.close
     (tie.spec
     slice-aggregate-word

@@ -6,25 +6,25 @@ use Rattle.listing.specs.lines.Lines.{star_place}
 use Rattle.listing.proofs.lines.place.Statement.{statement}
 use Rattle.listing.proofs.lines.place.Tie as tie
 
-number-requires : tie.Need-number-requires
+number-requires : tie.Need-number-number-requires
 number-requires c κs = search rules
 
 slice-aggregate-labelled : tie.Need-slice-aggregate-labelled
 slice-aggregate-labelled c = search rules
 
-labelled-requires : tie.Need-labelled-requires
+labelled-requires : tie.Need-labelled-x-requires
 labelled-requires c κs = search rules
 
 slice-aggregate-labelled-2 : tie.Need-slice-aggregate-labelled-2
 slice-aggregate-labelled-2 c = search rules
 
-labelled-requires-2 : tie.Need-labelled-requires-2
+labelled-requires-2 : tie.Need-labelled-y-requires
 labelled-requires-2 c κs = search rules
 
 slice-aggregate-labelled-3 : tie.Need-slice-aggregate-labelled-3
 slice-aggregate-labelled-3 c = search rules
 
-labelled-requires-3 : tie.Need-labelled-requires-3
+labelled-requires-3 : tie.Need-labelled-brightness-requires
 labelled-requires-3 c κs = search rules
 
 slice-aggregate-word : tie.Need-slice-aggregate-word
@@ -33,7 +33,7 @@ slice-aggregate-word c = search rules
 word-requires : tie.Need-word-requires
 word-requires c κs = search rules
 
-same_length : tie.Need-same-length
+same_length : tie.Need-shape_of-room
 same_length c = search rules
 
 returns : tie.Need-returns
@@ -44,20 +44,20 @@ returns c =
     let w3 = w4.before.before.before.before.before in
     let w2 = w3.before.before.before.before.before in
     let w1 = w2.before.before.before.before.before in (
-      wrote_then (wrote_then (wrote_then (wrote_then w1.number.ensures.0 w2.labelled.ensures.0) w3.labelled2.ensures.0)
-          w4.labelled3.ensures.0) w5.word.ensures,
+      wrote_then (wrote_then (wrote_then (wrote_then w1.number-number.ensures.0 w2.labelled-x.ensures.0) w3.labelled-y.ensures.0)
+          w4.labelled-brightness.ensures.0) w5.word.ensures,
       omega (
         arith,
-        w1.number.ensures.1,
-        w2.labelled.ensures.1,
-        w3.labelled2.ensures.1,
-        w4.labelled3.ensures.1,
+        w1.number-number.ensures.1,
+        w2.labelled-x.ensures.1,
+        w3.labelled-y.ensures.1,
+        w4.labelled-brightness.ensures.1,
         w5.word.ensures.place,
       ),
     )
 
-pub place-spec : {M : Type 1} → statement M
-place-spec =
+pub place_spec : {M : Type 1} → statement M
+place_spec =
     tie.close
     (tie.spec
     number-requires

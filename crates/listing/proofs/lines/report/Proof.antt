@@ -6,13 +6,13 @@ use Rattle.listing.specs.lines.Lines.{report_lines}
 use Rattle.listing.proofs.lines.report.Statement.{statement}
 use Rattle.listing.proofs.lines.report.Tie as tie
 
-counts-requires : tie.Need-counts-requires
+counts-requires : tie.Need-counts-first-requires
 counts-requires c κs = search rules
 
 stars-requires : tie.Need-stars-requires
 stars-requires c κs = search rules
 
-same_length : tie.Need-same-length
+same_length : tie.Need-shape_of-room
 same_length c = search rules
 
 returns : tie.Need-returns
@@ -20,7 +20,7 @@ unfolding report_lines
 returns c =
     let w2 = c.before.before in
     let w1 = w2.before.before.before.before in
-    (wrote_then w1.counts.ensures.0 w2.stars.ensures.0, omega (arith, w1.counts.ensures.1, w2.stars.ensures.1))
+    (wrote_then w1.counts-first.ensures.0 w2.stars.ensures.0, omega (arith, w1.counts-first.ensures.1, w2.stars.ensures.1))
 
-pub report-spec : {M : Type 1} → statement M
-report-spec = tie.close (tie.spec counts-requires stars-requires same_length returns)
+pub report_spec : {M : Type 1} → statement M
+report_spec = tie.close (tie.spec counts-requires stars-requires same_length returns)

@@ -6,10 +6,10 @@ use Rattle.listing.specs.lines.Lines.{star_line}
 use Rattle.listing.proofs.lines.star.Statement.{statement}
 use Rattle.listing.proofs.lines.star.Tie as tie
 
-place-requires : tie.Need-place-requires
+place-requires : tie.Need-place-placed-requires
 place-requires c κs = search rules
 
-name-requires : tie.Need-name-requires
+name-requires : tie.Need-name-named-requires
 name-requires c κs = search rules
 
 slice-aggregate-word : tie.Need-slice-aggregate-word
@@ -18,7 +18,7 @@ slice-aggregate-word c = search rules
 word-requires : tie.Need-word-requires
 word-requires c κs = search rules
 
-same_length : tie.Need-same-length
+same_length : tie.Need-shape_of-room
 same_length c = search rules
 
 returns : tie.Need-returns
@@ -27,11 +27,11 @@ returns c =
     let w3 = c.before.before in
     let w2 = w3.before.before.before.before.before in
     let w1 = w2.before.before.before.before in (
-      wrote_then (wrote_then w1.place.ensures.0 w2.name.ensures.0) w3.word.ensures,
-      omega (arith, w1.place.ensures.1, w2.name.ensures.1, w3.word.ensures.place),
+      wrote_then (wrote_then w1.place-placed.ensures.0 w2.name-named.ensures.0) w3.word.ensures,
+      omega (arith, w1.place-placed.ensures.1, w2.name-named.ensures.1, w3.word.ensures.place),
     )
 
-pub star-spec : {M : Type 1} → statement M
-star-spec =
+pub star_spec : {M : Type 1} → statement M
+star_spec =
     tie.close
     (tie.spec place-requires name-requires slice-aggregate-word word-requires same_length returns)

@@ -14,11 +14,11 @@ use Rattle.listing.specs.lines.Lines.{shown_in, star_line, star_lines}
 use Rattle.listing.proofs.lines.star_lines.Statement.{statement}
 use Rattle.listing.proofs.lines.star_lines.Tie as tie
 
-abbrev invariant-loop : tie.invariant-loop
+abbrev invariant-loop : tie.invariant-loop-k
 invariant-loop room₀ at count names catalogue stars words next₀ k₀ room next k =
     (k ≤ count) × Wrote room₀ at (star_lines stars (shown_in names catalogue words) k) room next × (next ≤ at + 105 * k)
 
-abbrev decreases-loop : tie.decreases-loop
+abbrev decreases-loop : tie.decreases-loop-k
 decreases-loop room₀ at count names catalogue stars words next₀ k₀ room next k = count - k
 
 -- one line more
@@ -27,49 +27,49 @@ further : {a b c : List ℕ} {at to end : ℕ} (stars : List Centroid) (name : �
 unfolding star_lines
 further stars name k p q = rw (add-one k) (wrote_then p q)
 
-loop-holds : tie.Need-loop-init invariant-loop decreases-loop
+loop-holds : tie.Need-loop-k-init invariant-loop decreases-loop
 unfolding star_lines
 loop-holds c = (search rules, wrote_none _ _, search rules)
 
-mul-star : tie.Need-overflow-mul-star invariant-loop decreases-loop
+mul-star : tie.Need-offset_bounds-stars-k invariant-loop decreases-loop
 mul-star c = omega arith
 
-array-copy-out-star : tie.Need-array-copy-out-star invariant-loop decreases-loop
+array-copy-out-star : tie.Need-bounds-stars-k invariant-loop decreases-loop
 array-copy-out-star c = omega arith
 
-mul-star-2 : tie.Need-overflow-mul-star-2 invariant-loop decreases-loop
+mul-star-2 : tie.Need-offset_bounds-words-k invariant-loop decreases-loop
 mul-star-2 c = omega arith
 
-array-read-star : tie.Need-array-read-star invariant-loop decreases-loop
+array-read-star : tie.Need-bounds-words-k invariant-loop decreases-loop
 array-read-star c = omega arith
 
-star-requires : tie.Need-star-requires invariant-loop decreases-loop
+star-requires : tie.Need-star-next-requires invariant-loop decreases-loop
 star-requires c κs = search rules
 
-add-k : tie.Need-overflow-add-k invariant-loop decreases-loop
+add-k : tie.Need-overflow_add-k invariant-loop decreases-loop
 add-k c = omega arith
 
-loop-less : tie.Need-loop-smaller invariant-loop decreases-loop
+loop-less : tie.Need-loop-k-smaller invariant-loop decreases-loop
 loop-less c = omega arith
 
-loop-again : tie.Need-loop-preserved invariant-loop decreases-loop
+loop-again : tie.Need-loop-k-preserved invariant-loop decreases-loop
 loop-again c =
     let b = c.before.before in
     let o = b.before.before.before.before in
-    (omega arith, further _ _ o.loop.k o.loop.invariant.1 b.star.ensures.0, omega (arith, b.star.ensures.1, o.loop.invariant.2))
+    (omega arith, further _ _ o.loop-k.k o.loop-k.invariant.1 b.star-next.ensures.0, omega (arith, b.star-next.ensures.1, o.loop-k.invariant.2))
 
-same_length : tie.Need-same-length invariant-loop decreases-loop
-same_length c = wrote-length c.before.loop.invariant.1
+same_length : tie.Need-shape_of-room invariant-loop decreases-loop
+same_length c = wrote-length c.before.loop-k.invariant.1
 
 returns : tie.Need-returns invariant-loop decreases-loop
 returns c =
-    let l = c.before.loop in
+    let l = c.before.loop-k in
     let s = c.before.before.before.before in
     let e : l.k ≡ s.args.count = omega arith in
     (rw (← e) l.invariant.1, omega (arith, l.invariant.2, s.requires))
 
-pub star-lines-spec : {M : Type 1} → statement M
-star-lines-spec =
+pub star_lines_spec : {M : Type 1} → statement M
+star_lines_spec =
     tie.close
     (tie.spec
     invariant-loop

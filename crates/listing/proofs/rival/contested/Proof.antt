@@ -38,28 +38,28 @@ module _ (report : Report) (catalogue : List ℕ) (c : Contest) where
 told : {a b : List ℕ} {n : ℕ} {x y : List ℕ} → x ≡ y → Wrote a 0 x b n → Wrote a 0 y b n
 told {a} {b} {n} e = subst (λ (x : List ℕ). Wrote a 0 x b n) e
 
-enum-known-outcome : tie.Need-enum-known-outcome
+enum-known-outcome : tie.Need-enum_known-outcome
 enum-known-outcome c = search rules
 
 refused-requires : tie.Need-refused-requires
 refused-requires c κs = search rules
 
-enum_told : tie.Need-enum-told
+enum_told : tie.Need-enum_told-1
 enum_told c = search rules
 
 stars-requires : tie.Need-stars-requires
 stars-requires c κs = search rules
 
-same_length : tie.Need-same-length
+same_length : tie.Need-shape_of-room-then-contest
 same_length c = search rules
 
-returns : tie.Need-returns
+returns : tie.Need-returns-then-contest
 returns c =
     let w = c.before.before in
     let i = w.before.before in
     let e = i.before in
     let a = c.before.before.before.before.before.before.before.before.before.before.args in
-    (told (rival-text a.report a.catalogue.now a.contest e.enum_told.given.1 i.if1.true) w.stars.ensures.0, w.stars.ensures.1)
+    (told (rival-text a.report a.catalogue.now a.contest e.enum_told-1.given.1 i.if-contest.true) w.stars.ensures.0, w.stars.ensures.1)
 
 slice-aggregate-word : tie.Need-slice-aggregate-word
 slice-aggregate-word c = search rules
@@ -67,31 +67,31 @@ slice-aggregate-word c = search rules
 word-requires : tie.Need-word-requires
 word-requires c κs = search rules
 
-same-length-2 : tie.Need-same-length-2
+same-length-2 : tie.Need-shape_of-room-in-Refused
 same-length-2 c = search rules
 
-returns-2 : tie.Need-returns-2
+returns-2 : tie.Need-returns-in-Refused
 returns-2 c =
     let w = c.before.before in
     let k = w.before.before.before in
     let a = c.before.before.before.before.before.before.before.before.before.before.args in
-    (told (refused-text a.report a.catalogue.now a.contest _ k.outcome.given.1) w.refused.ensures.0, omega (arith, w.refused.ensures.1))
+    (told (refused-text a.report a.catalogue.now a.contest _ k.outcome-1.given.1) w.refused.ensures.0, omega (arith, w.refused.ensures.1))
 
-same-length-3 : tie.Need-same-length-3
+same-length-3 : tie.Need-shape_of-room-else-contest
 same-length-3 c = search rules
 
-returns-3 : tie.Need-returns-3
+returns-3 : tie.Need-returns-else-contest
 returns-3 c =
     let w = c.before.before in
     let i = w.before.before.before in
     let e = i.before in
     let a = c.before.before.before.before.before.before.before.before.before.before.before.args in (
-      told (alone-text a.report a.catalogue.now a.contest e.enum_told.given.1 i.if1.false) w.word.ensures,
+      told (alone-text a.report a.catalogue.now a.contest e.enum_told-1.given.1 i.if-contest.false) w.word.ensures,
       omega (arith, w.word.ensures.place),
     )
 
-pub contested-spec : {M : Type 1} → statement M
-contested-spec =
+pub contested_spec : {M : Type 1} → statement M
+contested_spec =
     tie.close
     (tie.spec
     enum-known-outcome

@@ -19,33 +19,33 @@ told : (c : Call) (l : Listing) (x : Contest) {a b : List ℕ} {n : ℕ} → l �
 unfolding rival_text
 told c l x {a} {b} {n} e q = subst (λ (t : List ℕ). Wrote a 0 t b n) (λ i. contest_text (e i).report c.catalogue (q i))
 
-slice-aggregate-contest : tie.Need-slice-aggregate-contest
+slice-aggregate-contest : tie.Need-slice_bounds-contest-end
 slice-aggregate-contest c = search rules
 
-contest-requires : tie.Need-contest-requires
+contest-requires : tie.Need-contest-contest-requires
 contest-requires c κs = search rules
 
-list-requires : tie.Need-list-requires
+list-requires : tie.Need-list-listing-requires
 list-requires c κs = search rules
 
 contested-requires : tie.Need-contested-requires
 contested-requires c κs = search rules
 
-same_length : tie.Need-same-length
+same_length : tie.Need-shape_of-room
 same_length c = search rules
 
 returns : tie.Need-returns
 returns c =
     let w = c.before.before in
-    let l : tie.After-list = search rules in
-    let k : tie.After-contest = search rules in
+    let l : tie.After-list-listing = search rules in
+    let k : tie.After-contest-contest = search rules in
     let a = c.before.before.before.before.before.before.before.before.before.before.before.args in (
-      told (chain_on a.samples.now a.catalogue.now a.settings) _ _ l.list.ensures k.contest.ensures.0 w.contested.ensures.0,
+      told (chain_on a.samples.now a.catalogue.now a.settings) _ _ l.list-listing.ensures k.contest-contest.ensures.0 w.contested.ensures.0,
       w.contested.ensures.1,
     )
 
-pub rivals-spec : {M : Type 1} → statement M
-rivals-spec =
+pub rivals_spec : {M : Type 1} → statement M
+rivals_spec =
     tie.close
     (tie.spec
     slice-aggregate-contest

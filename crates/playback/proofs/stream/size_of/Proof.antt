@@ -9,17 +9,17 @@ use Rattle.playback.proofs.stream.size_of.Tie as tie
 product : (n w : ℕ) → n ≤ 3000000 → w ≤ 8 → n * w ≤ 24000000
 product n w h g = mul-le-mul h g
 
-returns : tie.Need-returns
+returns : tie.Need-returns-then-n-ge3000000
 returns c = search rules
 
-mul-size : tie.Need-overflow-mul-size
+mul-size : tie.Need-overflow_mul-size
 mul-size c = omega (arith, product c.before.args.n c.before.args.width (omega arith) c.before.requires)
 
-returns-2 : tie.Need-returns-2
+returns-2 : tie.Need-returns-then-size-most
 returns-2 c = search rules
 
-returns-3 : tie.Need-returns-3
+returns-3 : tie.Need-returns-else-size-most
 returns-3 c = search rules
 
-pub size-of-spec : {M : Type 1} → statement M
-size-of-spec = tie.close (tie.spec returns mul-size returns-2 returns-3)
+pub size_of_spec : {M : Type 1} → statement M
+size_of_spec = tie.close (tie.spec returns mul-size returns-2 returns-3)

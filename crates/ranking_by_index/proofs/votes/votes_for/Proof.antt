@@ -13,30 +13,30 @@ use Rattle.ranking_by_index.proofs.votes.votes_for.Statement.{statement}
 use Rattle.ranking_by_index.proofs.votes.votes_for.Tie as tie
 
 -- what the votes are counted by
-abbrev by : tie.After-products-of → Setting
+abbrev by : tie.After-products_of-products → Setting
 by d =
     let x = d.before.before.args in
-    setting d.products-of.result (triples x.directions.now) x.i x.stars.now x.tolerance
+    setting d.products_of-products.result (triples x.directions.now) x.i x.stars.now x.tolerance
 
 -- what the index voted
-indexed : (c : tie.After-vote-above)
+indexed : (c : tie.After-vote_above)
     → let d = c.before.before.before in
     let x = d.before.before.args in
-    (k : ℕ) → get_or c.vote-above.new.1.1.1.1.1.1.0 k 0 ≡ votes_by (by_index x.floor x.tolerance) (by d) k
+    (k : ℕ) → get_or c.vote_above.new.1.1.1.1.1.1.0 k 0 ≡ votes_by (by_index x.floor x.tolerance) (by d) k
 indexed c k =
     let s = c.before.before.before.before.before in
-    omega (arith, c.vote-above.ensures.added s.args.stars.now s.requires.1.0 s.requires.1.1.1.1 k, at-zeros {A = ℕ} 0 512 k)
+    omega (arith, c.vote_above.ensures.added s.args.stars.now s.requires.1.0 s.requires.1.1.1.1 k, at-zeros {A = ℕ} 0 512 k)
 
-products-of-requires : tie.Need-products-of-requires
+products-of-requires : tie.Need-products_of-products-requires
 products-of-requires c κs = search rules
 
-slice-aggregate-vote-above : tie.Need-slice-aggregate-vote-above
+slice-aggregate-vote-above : tie.Need-slice_bounds-vote_above-end
 slice-aggregate-vote-above c = search rules
 
-slice-aggregate-vote-above-2 : tie.Need-slice-aggregate-vote-above-2
+slice-aggregate-vote-above-2 : tie.Need-slice_bounds-vote_above-end-2
 slice-aggregate-vote-above-2 c = search rules
 
-vote-above-requires : tie.Need-vote-above-requires
+vote-above-requires : tie.Need-vote_above-requires
 vote-above-requires c κs =
     let d = c.before.before in
     let s = d.before.before in (
@@ -44,7 +44,7 @@ vote-above-requires c κs =
       (
         (s.requires.0.few, search rules),
         (
-          d.products-of.ensures.1,
+          d.products_of-products.ensures.1,
           (
             s.requires.1.1.1.0,
             (length-replicate {A = ℕ} 512 0, λ k. omega (arith, at-zeros {A = ℕ} 0 512 k)),
@@ -53,13 +53,13 @@ vote-above-requires c κs =
       ),
     )
 
-slice-aggregate-vote-below : tie.Need-slice-aggregate-vote-below
+slice-aggregate-vote-below : tie.Need-slice_bounds-vote_below-end
 slice-aggregate-vote-below c = search rules
 
-slice-aggregate-vote-below-2 : tie.Need-slice-aggregate-vote-below-2
+slice-aggregate-vote-below-2 : tie.Need-slice_bounds-vote_below-end-2
 slice-aggregate-vote-below-2 c = search rules
 
-vote-below-requires : tie.Need-vote-below-requires
+vote-below-requires : tie.Need-vote_below-requires
 vote-below-requires c κs =
     let a = c.before.before.before in
     let d = a.before.before.before in
@@ -69,11 +69,11 @@ vote-below-requires c κs =
       (
         (s.requires.0.few, search rules),
         (
-          d.products-of.ensures.1,
+          d.products_of-products.ensures.1,
           (
             s.requires.1.1.1.0,
             (
-              a.vote-above.auto.1.1.1.1.1.1.0 ∙ length-replicate {A = ℕ} 512 0,
+              a.vote_above.auto.1.1.1.1.1.1.0 ∙ length-replicate {A = ℕ} 512 0,
               λ k. omega (arith, indexed a k, by_most (by_index x.floor x.tolerance) (by d) k s.requires.0.few s.requires.1.0.few),
             ),
           ),
@@ -83,20 +83,20 @@ vote-below-requires c κs =
 
 returns : tie.Need-returns
 returns c =
-    let b = c.before.vote-below in
+    let b = c.before.vote_below in
     let a = c.before.before.before.before.before in
     let d = a.before.before.before in
     let x = d.before.before.args in
-    all-counted x.directions.now x.stars.now d.products-of.result _ x.tolerance x.i d.products-of.ensures.0
-    (b.auto.1.1.1.1.1.1.0 ∙ a.vote-above.auto.1.1.1.1.1.1.0 ∙ length-replicate {A = ℕ} 512 0)
+    all-counted x.directions.now x.stars.now d.products_of-products.result _ x.tolerance x.i d.products_of-products.ensures.0
+    (b.auto.1.1.1.1.1.1.0 ∙ a.vote_above.auto.1.1.1.1.1.1.0 ∙ length-replicate {A = ℕ} 512 0)
     (λ k.
     let u : votes_by (by_index x.floor x.tolerance) (by d) k + votes_by (by_catalogue x.floor x.tolerance) (by d) k
     ≡ so_far (by d) (triples x.stars.now) k =
     both-parts (by_index x.floor x.tolerance) (by d) k in
     omega (arith, b.ensures k, indexed a k, u))
 
-pub votes-for-spec : {M : Type 1} → statement M
-votes-for-spec =
+pub votes_for_spec : {M : Type 1} → statement M
+votes_for_spec =
     tie.close
     (tie.spec
     products-of-requires

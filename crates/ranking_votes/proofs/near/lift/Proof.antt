@@ -10,14 +10,14 @@ use Rattle.ranking_votes.proofs.near.lift.Tie as tie
 abbrev lifted : tie.Start → Num w64
 lifted s = add (arg s.requires tt) (lit (pos 3000000000000000000) tt) tt
 
-add-result : tie.Need-overflow-add-result
+add-result : tie.Need-overflow_add-result
 add-result c = fits (lifted c)
 
-cast-result : tie.Need-overflow-cast-result
+cast-result : tie.Need-overflow_cast-result
 cast-result c = unsigned (lifted c) (lifted-sign c.requires) tt
 
 returns : tie.Need-returns
 returns c = ap nat_abs (back (lifted c))
 
-pub lift-spec : {M : Type 1} → statement M
-lift-spec = tie.close (tie.spec add-result cast-result returns)
+pub lift_spec : {M : Type 1} → statement M
+lift_spec = tie.close (tie.spec add-result cast-result returns)

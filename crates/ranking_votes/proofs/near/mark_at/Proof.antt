@@ -23,7 +23,7 @@ lift-requires c κs = near (arg {w = w64} c.before.requires.1 tt) tt
 place-requires : tie.Need-place-requires
 place-requires c κs = (height c).1
 
-shared-slice-read-result : tie.Need-shared-slice-read-result
+shared-slice-read-result : tie.Need-bounds-near-place
 shared-slice-read-result c = omega (arith, c.before.place.ensures, (height c.before.before).1, c.before.before.before.before.requires.0)
 
 returns : tie.Need-returns
@@ -33,5 +33,5 @@ returns c =
     let e : c.before.place.result ≡ place_of x.p = omega (arith, c.before.place.ensures, (height a).0) in
     ap (λ (n : ℕ). get_or x.near.now n 0) e
 
-pub mark-at-spec : {M : Type 1} → statement M
-mark-at-spec = tie.close (tie.spec lift-requires place-requires shared-slice-read-result returns)
+pub mark_at_spec : {M : Type 1} → statement M
+mark_at_spec = tie.close (tie.spec lift-requires place-requires shared-slice-read-result returns)

@@ -10,33 +10,33 @@ use Rattle.search.proofs.Rejected.{catalogue-refused, catalogue-valid}
 use Rattle.search.proofs.refused.first_refusal.Statement.{statement}
 use Rattle.search.proofs.refused.first_refusal.Tie as tie
 
-check-requires : tie.Need-check-requires
+check-requires : tie.Need-check-checked-requires
 check-requires c κs = search rules
 
-enum-known-checked : tie.Need-enum-known-checked
+enum-known-checked : tie.Need-enum_known-checked
 enum-known-checked c = search rules
 
-enum-known-checked-2 : tie.Need-enum-known-checked-2
+enum-known-checked-2 : tie.Need-enum_known-checked-in-Count-1
 enum-known-checked-2 c = search rules
 
 beside-requires : tie.Need-beside-requires
 beside-requires c κs =
-    let v = checked-valid _ _ (sym c.before.before.before.check.ensures.0 ∙ c.before.checked2.given.1) in
+    let v = checked-valid _ _ (sym c.before.before.before.check-checked.ensures.0 ∙ c.before.checked-in-Count-1.given.1) in
     omega (arith, v.0.size.most, v.1)
 
-returns : tie.Need-returns
-returns c = sym (catalogue-refused _ _ _ _ _ _ (checked_refused _ _ (sym c.before.before.before.check.ensures.0 ∙ c.before.checked.given.1)))
+returns : tie.Need-returns-in-Refused
+returns c = sym (catalogue-refused _ _ _ _ _ _ (checked_refused _ _ (sym c.before.before.before.check-checked.ensures.0 ∙ c.before.checked-1.given.1)))
 
-returns-2 : tie.Need-returns-2
+returns-2 : tie.Need-returns-in-Count
 returns-2 c =
     let a = c.before.before.before.before.before.before.before.args in
-    let v = checked-valid _ _ (sym c.before.before.before.before.check.ensures.0 ∙ c.before.before.checked2.given.1) in
+    let v = checked-valid _ _ (sym c.before.before.before.before.check-checked.ensures.0 ∙ c.before.before.checked-in-Count-1.given.1) in
     c.beside.ensures
     ∙ ap (λ (n : ℕ). first_applying (rows_beside a.directions.now n a.needed a.tolerance a.ranking.now)) v.1
     ∙ sym (catalogue-valid _ _ _ _ _ (valid-accepted _ v.0))
 
-pub first-refusal-spec : {M : Type 1} → statement M
-first-refusal-spec =
+pub first_refusal_spec : {M : Type 1} → statement M
+first_refusal_spec =
     tie.close
     (tie.spec
     check-requires

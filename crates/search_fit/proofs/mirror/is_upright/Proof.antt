@@ -12,67 +12,67 @@ use Rattle.search_fit.proofs.mirror.is_upright.Tie as tie
 abbrev ask : List ℤ → List ℤ → List ℕ → ℕ → ℕ → ℕ → ℕ → ℕ → Bool
 ask stars turns chosen count i star k b = all k (λ j. given (ltb (get_or chosen j 0) count) (not (mirrored_by stars turns j k i (get_or chosen j 0) b star)))
 
-abbrev invariant-loop : tie.invariant-loop
+abbrev invariant-loop : tie.invariant-loop-k
 invariant-loop stars count chosen turns i star k₀ k = (k ≤ i) × (all k (tests.asks chosen count (ask stars turns chosen count i star)) ≡ true)
 
-abbrev decreases-loop : tie.decreases-loop
+abbrev decreases-loop : tie.decreases-loop-k
 decreases-loop stars count chosen turns i star k₀ k = i - k
 
-loop-holds : tie.Need-loop-init invariant-loop decreases-loop
+loop-holds : tie.Need-loop-k-init invariant-loop decreases-loop
 unfolding all
 loop-holds c = (omega arith, refl)
 
-mul-index : tie.Need-overflow-mul-index invariant-loop decreases-loop
+mul-index : tie.Need-offset_bounds-chosen-k invariant-loop decreases-loop
 mul-index c = omega arith
 
-shared-slice-read-index : tie.Need-shared-slice-read-index invariant-loop decreases-loop
+shared-slice-read-index : tie.Need-bounds-chosen-k invariant-loop decreases-loop
 shared-slice-read-index c = omega arith
 
-index-requires : tie.Need-index-requires invariant-loop decreases-loop
+index-requires : tie.Need-index-second-requires invariant-loop decreases-loop
 index-requires c κs = search rules
 
-upright-beside-requires : tie.Need-upright-beside-requires invariant-loop decreases-loop
+upright-beside-requires : tie.Need-upright_beside-requires invariant-loop decreases-loop
 upright-beside-requires c κs = let o = c.before.before.before.before.before.before in (o.requires.0, (omega arith, omega arith, omega arith))
 
-returns : tie.Need-returns invariant-loop decreases-loop
+returns : tie.Need-returns-then-not-upright_beside invariant-loop decreases-loop
 unfolding upright threes
 returns c =
     let h = c.before.before.before in
     let l = h.before.before.before in
     let a = l.before.before.args in
-    tests.stop a.chosen.now a.count (ask a.stars.now a.turns.now a.chosen.now a.count a.i a.star) l.loop.k a.i (omega arith)
-    (omega arith) _ _ c.before.upright-beside.ensures h.index.ensures
-    (not-true c.before.upright-beside.result c.if2.true)
+    tests.stop a.chosen.now a.count (ask a.stars.now a.turns.now a.chosen.now a.count a.i a.star) l.loop-k.k a.i (omega arith)
+    (omega arith) _ _ c.before.upright_beside.ensures h.index-second.ensures
+    c.if-not-upright_beside.true
 
-add-k : tie.Need-overflow-add-k invariant-loop decreases-loop
+add-k : tie.Need-overflow_add-k invariant-loop decreases-loop
 add-k c = omega arith
 
-loop-less : tie.Need-loop-smaller invariant-loop decreases-loop
+loop-less : tie.Need-loop-k-smaller invariant-loop decreases-loop
 loop-less c = omega arith
 
-loop-again : tie.Need-loop-preserved invariant-loop decreases-loop
+loop-again : tie.Need-loop-k-preserved invariant-loop decreases-loop
 loop-again c =
     let l = c.before.before.before.before in
     let a = l.before.before.args in (
       omega arith,
       ⊎_elim
-          (λ w. tests.go_on a.chosen.now a.count (ask a.stars.now a.turns.now a.chosen.now a.count a.i a.star) l.loop.k
-          l.loop.invariant.1 _ _ w.1.ensures c.before.index.ensures (not-false w.1.result w.2.left))
-          (λ w. tests.skip a.chosen.now a.count (ask a.stars.now a.turns.now a.chosen.now a.count a.i a.star) l.loop.k
-          l.loop.invariant.1 (omega arith))
-          c.if1.branch,
+          (λ w. tests.go_on a.chosen.now a.count (ask a.stars.now a.turns.now a.chosen.now a.count a.i a.star) l.loop-k.k
+          l.loop-k.invariant.1 _ _ w.upright_beside.ensures c.before.index-second.ensures w.if-not-upright_beside.false)
+          (λ w. tests.skip a.chosen.now a.count (ask a.stars.now a.turns.now a.chosen.now a.count a.i a.star) l.loop-k.k
+          l.loop-k.invariant.1 (omega arith))
+          c.if-second-count.branch-raw,
     )
 
-returns-2 : tie.Need-returns-2 invariant-loop decreases-loop
+returns-2 : tie.Need-returns invariant-loop decreases-loop
 unfolding upright threes
 returns-2 c =
     let l = c.before in
     let a = l.before.before.args in
-    tests.done a.chosen.now a.count (ask a.stars.now a.turns.now a.chosen.now a.count a.i a.star) l.loop.k a.i (omega arith)
-    l.loop.invariant.1
+    tests.done a.chosen.now a.count (ask a.stars.now a.turns.now a.chosen.now a.count a.i a.star) l.loop-k.k a.i (omega arith)
+    l.loop-k.invariant.1
 
-pub is-upright-spec : {M : Type 1} → statement M
-is-upright-spec =
+pub is_upright_spec : {M : Type 1} → statement M
+is_upright_spec =
     tie.close
     (tie.spec
     invariant-loop

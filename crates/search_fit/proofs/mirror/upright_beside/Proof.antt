@@ -12,38 +12,38 @@ use Rattle.search_fit.proofs.mirror.upright_beside.Tie as tie
 abbrev ask : List ℤ → List ℤ → ℕ → ℕ → ℕ → ℕ → ℕ → ℕ → Bool
 ask stars turns k i second star j a = not (mirrored_by stars turns j k i a second star)
 
-abbrev invariant-loop : tie.invariant-loop
+abbrev invariant-loop : tie.invariant-loop-j
 invariant-loop stars count chosen turns k i second star j₀ j = (j ≤ k) × (all j (tests.asks chosen count (ask stars turns k i second star)) ≡ true)
 
-abbrev decreases-loop : tie.decreases-loop
+abbrev decreases-loop : tie.decreases-loop-j
 decreases-loop stars count chosen turns k i second star j₀ j = k - j
 
-loop-holds : tie.Need-loop-init invariant-loop decreases-loop
+loop-holds : tie.Need-loop-j-init invariant-loop decreases-loop
 unfolding all
 loop-holds c = (omega arith, refl)
 
-mul-index : tie.Need-overflow-mul-index invariant-loop decreases-loop
+mul-index : tie.Need-offset_bounds-chosen-j invariant-loop decreases-loop
 mul-index c = omega arith
 
-shared-slice-read-index : tie.Need-shared-slice-read-index invariant-loop decreases-loop
+shared-slice-read-index : tie.Need-bounds-chosen-j invariant-loop decreases-loop
 shared-slice-read-index c = omega arith
 
-index-requires : tie.Need-index-requires invariant-loop decreases-loop
+index-requires : tie.Need-index-first-requires invariant-loop decreases-loop
 index-requires c κs = search rules
 
-mul-is-mirrored : tie.Need-overflow-mul-is-mirrored invariant-loop decreases-loop
+mul-is-mirrored : tie.Need-overflow_mul-j invariant-loop decreases-loop
 mul-is-mirrored c = omega arith
 
-add-is-mirrored : tie.Need-overflow-add-is-mirrored invariant-loop decreases-loop
+add-is-mirrored : tie.Need-overflow_add-j invariant-loop decreases-loop
 add-is-mirrored c = omega arith
 
-mul-is-mirrored-2 : tie.Need-overflow-mul-is-mirrored-2 invariant-loop decreases-loop
+mul-is-mirrored-2 : tie.Need-offset_bounds-turns-j invariant-loop decreases-loop
 mul-is-mirrored-2 c = omega arith
 
-shared-slice-copy-out-is-mirrored : tie.Need-shared-slice-copy-out-is-mirrored invariant-loop decreases-loop
+shared-slice-copy-out-is-mirrored : tie.Need-bounds-turns-j invariant-loop decreases-loop
 shared-slice-copy-out-is-mirrored c = omega arith
 
-is-mirrored-requires : tie.Need-is-mirrored-requires invariant-loop decreases-loop
+is-mirrored-requires : tie.Need-is_mirrored-requires invariant-loop decreases-loop
 is-mirrored-requires c κs =
     let o = c.before.before.before.before.before.before.before in
     let t = o.requires.0 in
@@ -54,48 +54,48 @@ told : {y z : ℤ} (w : ℤ) {r : Bool} → y ≡ z → r ≡ mirrored y w → n
 told w d e = ap not (e ∙ ap (λ (q : ℤ). mirrored q w) d)
 
 -- the same, of the word at j
-said : (c : tie.After-is-mirrored invariant-loop decreases-loop) → let l = c.before.before.before.before.before.before in
+said : (c : tie.After-is_mirrored invariant-loop decreases-loop) → let l = c.before.before.before.before.before.before in
     let a = l.before.before.args in
-    not c.is-mirrored.result ≡ ask a.stars.now a.turns.now a.k a.i a.second a.star l.loop.j
-    c.before.before.before.index.result
-said c = told _ (kept w64 c.before.is-mirrored-arg.given refl) c.is-mirrored.ensures
+    not c.is_mirrored.result ≡ ask a.stars.now a.turns.now a.k a.i a.second a.star l.loop-j.j
+    c.before.before.before.index-first.result
+said c = told _ (kept w64 c.before.is_mirrored-arg-1.given refl) c.is_mirrored.ensures
 
-returns : tie.Need-returns invariant-loop decreases-loop
+returns : tie.Need-returns-then-is_mirrored invariant-loop decreases-loop
 returns c =
     let h = c.before.before.before.before in
     let l = h.before.before.before in
     let a = l.before.before.args in
-    tests.stop a.chosen.now a.count (ask a.stars.now a.turns.now a.k a.i a.second a.star) l.loop.j a.k (omega arith)
-    (omega arith) _ _ (said c.before) h.index.ensures (tests.not_on _ c.if2.true)
+    tests.stop a.chosen.now a.count (ask a.stars.now a.turns.now a.k a.i a.second a.star) l.loop-j.j a.k (omega arith)
+    (omega arith) _ _ (said c.before) h.index-first.ensures (tests.not_on _ c.if-is_mirrored.true)
 
-add-j : tie.Need-overflow-add-j invariant-loop decreases-loop
+add-j : tie.Need-overflow_add-j-in-loop-j invariant-loop decreases-loop
 add-j c = omega arith
 
-loop-less : tie.Need-loop-smaller invariant-loop decreases-loop
+loop-less : tie.Need-loop-j-smaller invariant-loop decreases-loop
 loop-less c = omega arith
 
-loop-again : tie.Need-loop-preserved invariant-loop decreases-loop
+loop-again : tie.Need-loop-j-preserved invariant-loop decreases-loop
 loop-again c =
     let l = c.before.before.before.before in
     let a = l.before.before.args in (
       omega arith,
       ⊎_elim
-          (λ w. tests.go_on a.chosen.now a.count (ask a.stars.now a.turns.now a.k a.i a.second a.star) l.loop.j l.loop.invariant.1
-          _ _ (told _ (kept w64 w.1.given refl) w.2.ensures) c.before.index.ensures (tests.not-of _ w.3.left))
-          (λ w. tests.skip a.chosen.now a.count (ask a.stars.now a.turns.now a.k a.i a.second a.star) l.loop.j l.loop.invariant.1
+          (λ w. tests.go_on a.chosen.now a.count (ask a.stars.now a.turns.now a.k a.i a.second a.star) l.loop-j.j l.loop-j.invariant.1
+          _ _ (told _ (kept w64 w.is_mirrored-arg-1.given refl) w.is_mirrored.ensures) c.before.index-first.ensures (tests.not-of _ w.if-is_mirrored.false))
+          (λ w. tests.skip a.chosen.now a.count (ask a.stars.now a.turns.now a.k a.i a.second a.star) l.loop-j.j l.loop-j.invariant.1
           (omega arith))
-          c.if1.branch,
+          c.if-first-count.branch-raw,
     )
 
-returns-2 : tie.Need-returns-2 invariant-loop decreases-loop
+returns-2 : tie.Need-returns invariant-loop decreases-loop
 returns-2 c =
     let l = c.before in
     let a = l.before.before.args in
-    tests.done a.chosen.now a.count (ask a.stars.now a.turns.now a.k a.i a.second a.star) l.loop.j a.k (omega arith)
-    l.loop.invariant.1
+    tests.done a.chosen.now a.count (ask a.stars.now a.turns.now a.k a.i a.second a.star) l.loop-j.j a.k (omega arith)
+    l.loop-j.invariant.1
 
-pub upright-beside-spec : {M : Type 1} → statement M
-upright-beside-spec =
+pub upright_beside_spec : {M : Type 1} → statement M
+upright_beside_spec =
     tie.close
     (tie.spec
     invariant-loop

@@ -7,22 +7,22 @@ use Rattle.vectors.specs.Laws.{triple-within}
 use Rattle.search_fit.proofs.span.agrees_with.Statement.{statement}
 use Rattle.search_fit.proofs.span.agrees_with.Tie as tie
 
-triple-at-requires : tie.Need-triple-at-requires
+triple-at-requires : tie.Need-triple_at-requires
 triple-at-requires c κs = search rules
 
-dot-requires : tie.Need-dot-requires
-dot-requires c κs = let o = c.before in (o.requires.1.0, rw c.triple-at.ensures (triple-within o.requires.1.1.1 _))
+dot-requires : tie.Need-dot-product-requires
+dot-requires c κs = let o = c.before in (o.requires.1.0, rw c.triple_at.ensures (triple-within o.requires.1.1.1 _))
 
 agree-requires : tie.Need-agree-requires
 agree-requires c κs = search rules
 
 returns : tie.Need-returns
 returns c =
-    let d = c.before.dot in
-    let t = c.before.before.triple-at in
+    let d = c.before.dot-product in
+    let t = c.before.before.triple_at in
     let o = c.before.before.before in
     c.agree.ensures ∙ (λ k. agreeing (kept w64 {r = o.args.dot} o.ranges.dot.sfits refl k)
-    (kept w64 d.type-inv (d.ensures.0 ∙ (λ i. dot_of o.args.star (t.ensures i))) k) o.args.tolerance)
+    (kept w64 d.type_inv (d.ensures.0 ∙ (λ i. dot_of o.args.star (t.ensures i))) k) o.args.tolerance)
 
-pub agrees-with-spec : {M : Type 1} → statement M
-agrees-with-spec = tie.close (tie.spec triple-at-requires dot-requires agree-requires returns)
+pub agrees_with_spec : {M : Type 1} → statement M
+agrees_with_spec = tie.close (tie.spec triple-at-requires dot-requires agree-requires returns)

@@ -8,14 +8,14 @@ use Rattle.search_fit.proofs.span.raised.Tie as tie
 abbrev up : tie.Start → Num w64
 up c = add (arg c.requires tt) (lit (pos 4000000000000000000) tt) tt
 
-add-result : tie.Need-overflow-add-result
+add-result : tie.Need-overflow_add-result
 add-result c = fits (up c)
 
-cast-result : tie.Need-overflow-cast-result
+cast-result : tie.Need-overflow_cast-result
 cast-result c = unsigned (up c) (raised-up c.args.p c.requires) tt
 
 returns : tie.Need-returns
 returns c = ap nat_abs (back (up c)) ∙ raised_is c.args.p c.requires
 
-pub raised-spec : {M : Type 1} → statement M
-raised-spec = tie.close (tie.spec add-result cast-result returns)
+pub raised_spec : {M : Type 1} → statement M
+raised_spec = tie.close (tie.spec add-result cast-result returns)

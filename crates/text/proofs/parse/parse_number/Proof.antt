@@ -10,62 +10,62 @@ use Rattle.text.specs.ParseLaws.{parsed-next, parsed-stop, parsed-some, parsed-e
 use Rattle.text.proofs.parse.parse_number.Statement.{statement}
 use Rattle.text.proofs.parse.parse_number.Tie as tie
 
-abbrev invariant-loop : tie.invariant-loop
+abbrev invariant-loop : tie.invariant-loop-i
 invariant-loop word value₀ i₀ value i =
     (i ≤ length word)
     × (value < 18446744073709551616)
     × (parsed_of word ≡ parsed_from value (drop i word))
 
-abbrev decreases-loop : tie.decreases-loop
+abbrev decreases-loop : tie.decreases-loop-i
 decreases-loop word value₀ i₀ value i = length word - i
 
-returns : tie.Need-returns invariant-loop decreases-loop
-returns c = told _ (sym (parsed-empty _ c.if1.true))
+returns : tie.Need-returns-then-word-eq0 invariant-loop decreases-loop
+returns c = told _ (sym (parsed-empty _ c.if-word-eq0.true))
 
-loop-holds : tie.Need-loop-init invariant-loop decreases-loop
-loop-holds c = (omega arith, omega arith, parsed-some _ (omega (arith, c.if1.false)))
+loop-holds : tie.Need-loop-i-init invariant-loop decreases-loop
+loop-holds c = (omega arith, omega arith, parsed-some _ (omega (arith, c.if-word-eq0.false)))
 
-shared-slice-read-with-digit : tie.Need-shared-slice-read-with-digit invariant-loop decreases-loop
+shared-slice-read-with-digit : tie.Need-bounds-word-i invariant-loop decreases-loop
 shared-slice-read-with-digit c = search rules
 
-with-digit-requires : tie.Need-with-digit-requires invariant-loop decreases-loop
+with-digit-requires : tie.Need-with_digit-more-requires invariant-loop decreases-loop
 with-digit-requires c κs = search rules
 
-enum-known-more : tie.Need-enum-known-more invariant-loop decreases-loop
+enum-known-more : tie.Need-enum_known-more invariant-loop decreases-loop
 enum-known-more c = search rules
 
-enum_told : tie.Need-enum-told invariant-loop decreases-loop
+enum_told : tie.Need-enum_told-1 invariant-loop decreases-loop
 enum_told c = search rules
 
-returns-2 : tie.Need-returns-2 invariant-loop decreases-loop
+returns-2 : tie.Need-returns-in_default invariant-loop decreases-loop
 returns-2 c =
-    let w : tie.After-with-digit invariant-loop decreases-loop = search rules in
-    let o : tie.In-loop invariant-loop decreases-loop = search rules in
-    let l = o.before.loop in
-    told _ (sym (l.inv.2 ∙ parsed-stop _ l.i l.value o.loop-test.taken (sym w.with-digit.ensures ∙ c.enum_told.given.1)))
+    let w : tie.After-with_digit-more invariant-loop decreases-loop = search rules in
+    let o : tie.In-loop-i invariant-loop decreases-loop = search rules in
+    let l = o.before.loop-i in
+    told _ (sym (l.inv.2 ∙ parsed-stop _ l.i l.value o.loop-i-test.taken (sym w.with_digit-more.ensures ∙ c.enum_told-1.given.1)))
 
-add-i : tie.Need-overflow-add-i invariant-loop decreases-loop
+add-i : tie.Need-overflow_add-i invariant-loop decreases-loop
 add-i c = search rules
 
-loop-less : tie.Need-loop-smaller invariant-loop decreases-loop
+loop-less : tie.Need-loop-i-smaller invariant-loop decreases-loop
 loop-less c = search rules
 
-loop-again : tie.Need-loop-preserved invariant-loop decreases-loop
+loop-again : tie.Need-loop-i-preserved invariant-loop decreases-loop
 loop-again c =
-    let w : tie.After-with-digit invariant-loop decreases-loop = search rules in
-    let o : tie.In-loop invariant-loop decreases-loop = search rules in
-    let l = o.before.loop in
-    let more = parsed-next _ l.i l.value o.loop-test.taken c.before.more.given.0.0 (sym w.with-digit.ensures ∙ c.before.more.given.1)
+    let w : tie.After-with_digit-more invariant-loop decreases-loop = search rules in
+    let o : tie.In-loop-i invariant-loop decreases-loop = search rules in
+    let l = o.before.loop-i in
+    let more = parsed-next _ l.i l.value o.loop-i-test.taken c.before.more-1.given.0.0 (sym w.with_digit-more.ensures ∙ c.before.more-1.given.1)
     in
-    (omega (arith, o.loop-test.taken), more.0, l.inv.2 ∙ more.1)
+    (omega (arith, o.loop-i-test.taken), more.0, l.inv.2 ∙ more.1)
 
-returns-3 : tie.Need-returns-3 invariant-loop decreases-loop
+returns-3 : tie.Need-returns invariant-loop decreases-loop
 returns-3 c =
-    let l = c.before.loop in
+    let l = c.before.loop-i in
     told _ (sym (l.invariant.2 ∙ parsed-whole _ l.i l.value (omega arith) l.invariant.1))
 
-pub parse-number-spec : {M : Type 1} → statement M
-parse-number-spec =
+pub parse_number_spec : {M : Type 1} → statement M
+parse_number_spec =
     tie.close
     (tie.spec
     invariant-loop

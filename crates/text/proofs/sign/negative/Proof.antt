@@ -32,37 +32,37 @@ module _ {size : Parsed} {n : ℕ} (e : size ≡ parsed.Number n) where
   none : n ≡ 0 → Number (pos 0) ≡ negative_of size
   none z = is (ap (λ (x : ℕ). fitting (neg_ℤ (pos x))) z ∙ laws.fits (pos 0) (omega arith))
 
-enum-known-size : tie.Need-enum-known-size
+enum-known-size : tie.Need-enum_known-size
 enum-known-size c = search rules
 
-enum_told : tie.Need-enum-told
+enum_told : tie.Need-enum_told-1
 enum_told c = search rules
 
-returns : tie.Need-returns
+returns : tie.Need-returns-in_default
 returns c = search rules
 
-returns-2 : tie.Need-returns-2
-returns-2 c = let k : tie.After-size = search rules in is k.size.given.1 (turned-far _ c.if1.true)
+returns-2 : tie.Need-returns-then-n-gt-HALF
+returns-2 c = let k : tie.In-Number-2 = search rules in is k.size-1.given.1 (turned-far _ c.if-n-gt-HALF.true)
 
-returns-3 : tie.Need-returns-3
-returns-3 c = let k : tie.After-size = search rules in none k.size.given.1 c.if2.true
+returns-3 : tie.Need-returns-then-n-eq0
+returns-3 c = let k : tie.In-Number-2 = search rules in none k.size-1.given.1 c.if-n-eq0.true
 
-sub-negative : tie.Need-overflow-sub-negative
+sub-negative : tie.Need-overflow_sub-n
 sub-negative c = search rules
 
 negative-requires : tie.Need-negative-requires
 negative-requires c κs = search rules
 
-returns-4 : tie.Need-returns-4
+returns-4 : tie.Need-returns
 returns-4 c =
     let w : tie.After-negative = search rules in
-    let d : tie.Else2 = search rules in
-    let k : tie.After-size = search rules in
+    let d : tie.Else-n-eq0 = search rules in
+    let k : tie.In-Number-2 = search rules in
     ap (λ (z : ℤ). Number z) (kept w64 w.negative.ok w.negative.ensures)
-    ∙ is k.size.given.1 (turned-near k.size.given.0.0 (omega (arith, d.if2.left)) d.before.if1.left)
+    ∙ is k.size-1.given.1 (turned-near k.size-1.given.0.0 (omega (arith, d.if-n-eq0.left)) d.before.if-n-gt-HALF.left)
 
-pub negative-spec : {M : Type 1} → statement M
-negative-spec =
+pub negative_spec : {M : Type 1} → statement M
+negative_spec =
     tie.close
     (tie.spec
     enum-known-size

@@ -13,13 +13,13 @@ use Rattle.text.specs.SignLaws.{empty-read, minus-read, size-read, told}
 use Rattle.text.proofs.sign.parse_signed.Statement.{statement}
 use Rattle.text.proofs.sign.parse_signed.Tie as tie
 
-returns : tie.Need-returns
-returns c = told _ (sym (empty-read _ c.if1.true))
+returns : tie.Need-returns-then-word-eq0
+returns c = told _ (sym (empty-read _ c.if-word-eq0.true))
 
-shared-slice-read-if2 : tie.Need-shared-slice-read-if2
+shared-slice-read-if2 : tie.Need-bounds-word-0
 shared-slice-read-if2 c = search rules
 
-sub-parse-number : tie.Need-overflow-sub-parse-number
+sub-parse-number : tie.Need-slice_bounds-parse_number-count
 sub-parse-number c = search rules
 
 part-parse-number-start : tie.Need-slice-bounds-parse-number-start
@@ -28,39 +28,39 @@ part-parse-number-start c = search rules
 part-parse-number-end : tie.Need-slice-bounds-parse-number-end
 part-parse-number-end c = search rules
 
-parse-number-requires : tie.Need-parse-number-requires
+parse-number-requires : tie.Need-parse_number-size-requires
 parse-number-requires c κs = search rules
 
 negative-requires : tie.Need-negative-requires
 negative-requires c κs = search rules
 
-returns-2 : tie.Need-returns-2
+returns-2 : tie.Need-returns-then-word-eq45
 returns-2 c =
-    let p : tie.After-parse-number = search rules in
-    let i : tie.Then2 = search rules in
-    let e : tie.Else1 = search rules in
+    let p : tie.After-parse_number-size = search rules in
+    let i : tie.Then-word-eq45 = search rules in
+    let e : tie.Else-word-eq0 = search rules in
     let a : tie.Start = search rules in
     let word = a.args.word.now in
     let rest = take_all (length word - 1) (drop 1 word) (omega (arith, length-drop 1 word)) in
-    told _ (c.negative.ensures ∙ ap (λ (x : Parsed). negative_of x) (p.parse-number.ensures.0 ∙ ap parsed_of rest)
-    ∙ sym (minus-read word (omega (arith, e.if1.left)) i.if2.taken))
+    told _ (c.negative.ensures ∙ ap (λ (x : Parsed). negative_of x) (p.parse_number-size.ensures.0 ∙ ap parsed_of rest)
+    ∙ sym (minus-read word (omega (arith, e.if-word-eq0.left)) i.if-word-eq45.taken))
 
-parse-number-requires-2 : tie.Need-parse-number-requires-2
+parse-number-requires-2 : tie.Need-parse_number-size-requires-2
 parse-number-requires-2 c κs = search rules
 
 positive-requires : tie.Need-positive-requires
 positive-requires c κs = search rules
 
-returns-3 : tie.Need-returns-3
+returns-3 : tie.Need-returns
 returns-3 c =
-    let p : tie.After-parse-number2 = search rules in
-    let i : tie.Else2 = search rules in
-    let e : tie.Else1 = search rules in
-    told _ (c.positive.ensures ∙ ap (λ (x : Parsed). positive_of x) p.parse-number2.ensures.0
-    ∙ sym (size-read _ (omega (arith, e.if1.left)) i.if2.left))
+    let p : tie.After-parse_number-size-2 = search rules in
+    let i : tie.Else-word-eq45 = search rules in
+    let e : tie.Else-word-eq0 = search rules in
+    told _ (c.positive.ensures ∙ ap (λ (x : Parsed). positive_of x) p.parse_number-size-2.ensures.0
+    ∙ sym (size-read _ (omega (arith, e.if-word-eq0.left)) i.if-word-eq45.left))
 
-pub parse-signed-spec : {M : Type 1} → statement M
-parse-signed-spec =
+pub parse_signed_spec : {M : Type 1} → statement M
+parse_signed_spec =
     tie.close
     (tie.spec
     returns

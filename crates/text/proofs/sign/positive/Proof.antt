@@ -21,23 +21,23 @@ module _ {size : Parsed} {n : ℕ} (e : size ≡ parsed.Number n) where
   near : n < 9223372036854775808 → Number (to_z w64 n) ≡ positive_of size
   near h = ap (λ (z : ℤ). Number z) (to_z_pos w64 n h) ∙ sym (ap (λ (p : Parsed). positive_of p) e ∙ fits (pos n) h)
 
-enum-known-size : tie.Need-enum-known-size
+enum-known-size : tie.Need-enum_known-size
 enum-known-size c = search rules
 
-enum_told : tie.Need-enum-told
+enum_told : tie.Need-enum_told-1
 enum_told c = search rules
 
-returns : tie.Need-returns
+returns : tie.Need-returns-in_default
 returns c = search rules
 
-returns-2 : tie.Need-returns-2
-returns-2 c = let k : tie.After-size = search rules in far k.size.given.1 c.if1.true
+returns-2 : tie.Need-returns-then-n-ge-HALF
+returns-2 c = let k : tie.In-Number-2 = search rules in far k.size-1.given.1 c.if-n-ge-HALF.true
 
-cast-t4 : tie.Need-overflow-cast-t4
+cast-t4 : tie.Need-overflow_cast-result
 cast-t4 c = search rules
 
-returns-3 : tie.Need-returns-3
-returns-3 c = let k : tie.After-size = search rules in near k.size.given.1 c.if1.false
+returns-3 : tie.Need-returns
+returns-3 c = let k : tie.In-Number-2 = search rules in near k.size-1.given.1 c.if-n-ge-HALF.false
 
-pub positive-spec : {M : Type 1} → statement M
-positive-spec = tie.close (tie.spec enum-known-size enum_told returns returns-2 cast-t4 returns-3)
+pub positive_spec : {M : Type 1} → statement M
+positive_spec = tie.close (tie.spec enum-known-size enum_told returns returns-2 cast-t4 returns-3)

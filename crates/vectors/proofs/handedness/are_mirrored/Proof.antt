@@ -24,41 +24,41 @@ right-p s e t = ap right (sym (first s)) ∙ sym e ∙ t
 left-p : (s : tie.Start) {a b : Bool} → a ≡ left (to_z w64 (of_z w64 s.args.p)) → a ≡ b → left s.args.p ≡ b
 left-p s e t = ap left (sym (first s)) ∙ sym e ∙ t
 
-is-right-requires : tie.Need-is-right-requires
+is-right-requires : tie.Need-is_right-requires
 is-right-requires c κs = search rules
 
-is-left-requires : tie.Need-is-left-requires
+is-left-requires : tie.Need-is_left-requires
 is-left-requires c κs = search rules
 
-returns : tie.Need-returns
+returns : tie.Need-returns-then-is_right
 returns c =
     let s = c.before.before.before in
-    c.is-left.ensures ∙ ap left (second s) ∙ mirrored-right s.args.p s.args.q
-    (right-p s c.before.before.is_right.ensures c.before.if1.true)
+    c.is_left.ensures ∙ ap left (second s) ∙ mirrored-right s.args.p s.args.q
+    (right-p s c.before.before.is_right.ensures c.before.if-is_right.true)
 
-is-left-requires-2 : tie.Need-is-left-requires-2
+is-left-requires-2 : tie.Need-is_left-requires-2
 is-left-requires-2 c κs = search rules
 
-is-right-requires-2 : tie.Need-is-right-requires-2
+is-right-requires-2 : tie.Need-is_right-requires-then-is_left
 is-right-requires-2 c κs = search rules
 
-returns-2 : tie.Need-returns-2
+returns-2 : tie.Need-returns-then-is_left
 returns-2 c =
     let o = c.before.before in
     let s = o.before.before.before in
-    c.is-right2.ensures ∙ ap right (second s)
-    ∙ mirrored-left s.args.p s.args.q (right-p s o.before.before.is_right.ensures o.before.if1.false)
-    (left-p s o.is-left2.ensures c.before.if2.true)
+    c.is_right-then-is_left.ensures ∙ ap right (second s)
+    ∙ mirrored-left s.args.p s.args.q (right-p s o.before.before.is_right.ensures o.before.if-is_right.false)
+    (left-p s o.is_left-2.ensures c.before.if-is_left.true)
 
-returns-3 : tie.Need-returns-3
+returns-3 : tie.Need-returns
 returns-3 c =
     let o = c.before in
     let s = o.before.before.before in
-    mirrored-neither s.args.p s.args.q (right-p s o.before.before.is_right.ensures o.before.if1.false)
-    (left-p s o.is-left2.ensures c.if2.false)
+    mirrored-neither s.args.p s.args.q (right-p s o.before.before.is_right.ensures o.before.if-is_right.false)
+    (left-p s o.is_left-2.ensures c.if-is_left.false)
 
-pub are-mirrored-spec : {M : Type 1} → statement M
-are-mirrored-spec =
+pub are_mirrored_spec : {M : Type 1} → statement M
+are_mirrored_spec =
     tie.close
     (tie.spec
     is-right-requires

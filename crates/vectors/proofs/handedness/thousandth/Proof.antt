@@ -9,7 +9,7 @@ use Rattle.vectors.proofs.handedness.thousandth.Statement.{statement}
 use Rattle.vectors.proofs.handedness.thousandth.Tie as tie
 
 -- the entry, from the place at which all three numbers are read
-abbrev start : tie.After-struct-told3 → tie.Start
+abbrev start : tie.After-struct_told-3-1 → tie.Start
 start c = c.before.before.before
 
 abbrev whole : {z : ℤ} → Within 1000000000 z → Num w64
@@ -21,13 +21,13 @@ thousand = lit (pos 1000) tt
 abbrev part : {z : ℤ} → Within 1000000000 z → Num w64
 part h = bound (quot (whole h) thousand tt) (thousandth-small h)
 
-div-t5 : tie.Need-nonzero-div-t5
+div-t5 : tie.Need-nonzero_div-result
 div-t5 c = divides (whole (start c).requires.x) thousand (omega arith) tt
 
-div-t6 : tie.Need-nonzero-div-t6
+div-t6 : tie.Need-nonzero_div-result-2
 div-t6 c = divides (whole (start c).requires.y) thousand (omega arith) tt
 
-div-t7 : tie.Need-nonzero-div-t7
+div-t7 : tie.Need-nonzero_div-result-3
 div-t7 c = divides (whole (start c).requires.z) thousand (omega arith) tt
 
 returns : tie.Need-returns
@@ -37,5 +37,5 @@ returns c =
     let z = part (start c).requires.z in
     ((λ i. record { x = back x i; y = back y i; z = back z i }), record { x = near x tt; y = near y tt; z = near z tt })
 
-pub thousandth-spec : {M : Type 1} → statement M
-thousandth-spec = tie.close (tie.spec div-t5 div-t6 div-t7 returns)
+pub thousandth_spec : {M : Type 1} → statement M
+thousandth_spec = tie.close (tie.spec div-t5 div-t6 div-t7 returns)

@@ -26,9 +26,9 @@ returns c =
     let e = c.product.ensures in
     let o = c.before in
     let r = o.before.before.thousandth.ensures.0 in (
-      kept w64 c.product.type-inv (e.0 ∙ (λ i. dot_of (r i) (cross_of (o.before.thousandth2.ensures.0 i) (o.thousandth3.ensures.0 i)))),
+      kept w64 c.product.type_inv (e.0 ∙ (λ i. dot_of (r i) (cross_of (o.before.thousandth-2.ensures.0 i) (o.thousandth-3.ensures.0 i)))),
       near (arg {w = w64} e.1 tt) tt,
     )
 
-pub triple-product-spec : {M : Type 1} → statement M
-triple-product-spec = tie.close (tie.spec thousandth-requires thousandth-requires-2 thousandth-requires-3 product-requires returns)
+pub triple_product_spec : {M : Type 1} → statement M
+triple_product_spec = tie.close (tie.spec thousandth-requires thousandth-requires-2 thousandth-requires-3 product-requires returns)

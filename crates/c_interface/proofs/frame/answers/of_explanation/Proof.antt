@@ -5,26 +5,26 @@ use borrow.Author.Rules.{rules}
 use Rattle.c_interface.proofs.frame.answers.of_explanation.Statement.{statement}
 use Rattle.c_interface.proofs.frame.answers.of_explanation.Tie as tie
 
-enum-known-explanation : tie.Need-enum-known-explanation
+enum-known-explanation : tie.Need-enum_known-explanation
 enum-known-explanation c = search rules
 
-of-refusal-requires : tie.Need-of-refusal-requires
+of-refusal-requires : tie.Need-of_refusal-requires
 of-refusal-requires c κs = search rules
 
-enum-known-explanation-2 : tie.Need-enum-known-explanation-2
+enum-known-explanation-2 : tie.Need-enum_known-explanation-in-Given-1
 enum-known-explanation-2 c = search rules
 
-of-reason-requires : tie.Need-of-reason-requires
+of-reason-requires : tie.Need-of_reason-requires
 of-reason-requires c κs = search rules
 
-returns : tie.Need-returns
-returns c = c.of-refusal.ensures ∙ ap explanation_numbers (sym c.before.before.explanation.given.1)
+returns : tie.Need-returns-in-Refused
+returns c = c.of_refusal.ensures ∙ ap explanation_numbers (sym c.before.before.explanation-1.given.1)
 
-returns-2 : tie.Need-returns-2
-returns-2 c = c.of-reason.ensures ∙ ap explanation_numbers (sym c.before.before.explanation2.given.1)
+returns-2 : tie.Need-returns-in-Given
+returns-2 c = c.of_reason.ensures ∙ ap explanation_numbers (sym c.before.before.explanation-in-Given-1.given.1)
 
-pub of-explanation-spec : {M : Type 1} → statement M
-of-explanation-spec =
+pub of_explanation_spec : {M : Type 1} → statement M
+of_explanation_spec =
     tie.close
     (tie.spec
     enum-known-explanation

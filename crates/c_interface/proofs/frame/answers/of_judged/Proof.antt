@@ -13,31 +13,31 @@ use Rattle.c_interface.proofs.frame.answers.of_judged.Tie as tie
 signed-requires : tie.Need-signed-requires
 signed-requires c κs = search rules
 
-array-set-from-flat : tie.Need-array-set-from-flat
+array-set-from-flat : tie.Need-bounds-flat-2
 array-set-from-flat c = search rules
 
 signed-requires-2 : tie.Need-signed-requires-2
 signed-requires-2 c κs = search rules
 
-array-set-from-flat-2 : tie.Need-array-set-from-flat-2
+array-set-from-flat-2 : tie.Need-bounds-flat-3
 array-set-from-flat-2 c = search rules
 
-kind-number-requires : tie.Need-kind-number-requires
+kind-number-requires : tie.Need-kind_number-requires
 kind-number-requires c κs = search rules
 
-cast_signed : tie.Need-overflow-cast-signed
+cast_signed : tie.Need-overflow_cast-kind_number
 cast_signed c = search rules
 
 signed-requires-3 : tie.Need-signed-requires-3
 signed-requires-3 c κs = search rules
 
-array-set-from-flat-3 : tie.Need-array-set-from-flat-3
+array-set-from-flat-3 : tie.Need-bounds-flat-4
 array-set-from-flat-3 c = search rules
 
-centroid-in-requires : tie.Need-centroid-in-requires
+centroid-in-requires : tie.Need-centroid_in-requires
 centroid-in-requires c κs = search rules
 
-put-star-requires : tie.Need-put-star-requires
+put-star-requires : tie.Need-put_star-requires
 put-star-requires c κs = search rules
 
 returns : tie.Need-returns
@@ -46,18 +46,18 @@ returns c =
     let kind = star.before in
     let column = kind.before.before in
     let row = column.before in
-    c.put-star.ensures
+    c.put_star.ensures
     ∙ (λ i.
     with_star
     (accepted_numbers
-    (kept w64 row.signed.type-inv row.signed.ensures i
-    ∷ (kept w64 column.signed2.type-inv column.signed2.ensures i
-    ∷ (kept w64 kind.signed3.type-inv (kind.signed3.ensures ∙ ap signed_of kind.before.kind-number.ensures) i ∷ []))))
+    (kept w64 row.signed.type_inv row.signed.ensures i
+    ∷ (kept w64 column.signed-2.type_inv column.signed-2.ensures i
+    ∷ (kept w64 kind.signed-3.type_inv (kind.signed-3.ensures ∙ ap signed_of kind.before.kind_number.ensures) i ∷ []))))
     5
-    (star.centroid-in.ensures i))
+    (star.centroid_in.ensures i))
 
-pub of-judged-spec : {M : Type 1} → statement M
-of-judged-spec =
+pub of_judged_spec : {M : Type 1} → statement M
+of_judged_spec =
     tie.close
     (tie.spec
     signed-requires

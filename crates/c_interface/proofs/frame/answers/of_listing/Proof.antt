@@ -5,14 +5,14 @@ use borrow.Author.Rules.{rules}
 use Rattle.c_interface.proofs.frame.answers.of_listing.Statement.{statement}
 use Rattle.c_interface.proofs.frame.answers.of_listing.Tie as tie
 
-of-report-requires : tie.Need-of-report-requires
+of-report-requires : tie.Need-of_report-requires
 of-report-requires c κs = search rules
 
-of-outcome-requires : tie.Need-of-outcome-requires
+of-outcome-requires : tie.Need-of_outcome-requires
 of-outcome-requires c κs = search rules
 
 returns : tie.Need-returns
-returns c = c.of-outcome.ensures ∙ ap (outcome_numbers c.before.before.before.args.listing.outcome) c.before.of-report.ensures
+returns c = c.of_outcome.ensures ∙ ap (outcome_numbers c.before.before.before.args.listing.outcome) c.before.of_report.ensures
 
-pub of-listing-spec : {M : Type 1} → statement M
-of-listing-spec = tie.close (tie.spec of-report-requires of-outcome-requires returns)
+pub of_listing_spec : {M : Type 1} → statement M
+of_listing_spec = tie.close (tie.spec of-report-requires of-outcome-requires returns)

@@ -5,26 +5,26 @@ use borrow.Author.Rules.{rules}
 use Rattle.c_interface.proofs.frame.answers.of_verdict.Statement.{statement}
 use Rattle.c_interface.proofs.frame.answers.of_verdict.Tie as tie
 
-enum-known-judgement : tie.Need-enum-known-judgement
+enum-known-judgement : tie.Need-enum_known-judgement
 enum-known-judgement c = search rules
 
-of-refusal-requires : tie.Need-of-refusal-requires
+of-refusal-requires : tie.Need-of_refusal-requires
 of-refusal-requires c κs = search rules
 
-enum-known-judgement-2 : tie.Need-enum-known-judgement-2
+enum-known-judgement-2 : tie.Need-enum_known-judgement-in-Judged-1
 enum-known-judgement-2 c = search rules
 
-of-judged-requires : tie.Need-of-judged-requires
+of-judged-requires : tie.Need-of_judged-requires
 of-judged-requires c κs = search rules
 
-returns : tie.Need-returns
-returns c = c.of-refusal.ensures ∙ ap verdict_numbers (sym c.before.before.judgement.given.1)
+returns : tie.Need-returns-in-Refused
+returns c = c.of_refusal.ensures ∙ ap verdict_numbers (sym c.before.before.judgement-1.given.1)
 
-returns-2 : tie.Need-returns-2
-returns-2 c = c.of-judged.ensures ∙ ap verdict_numbers (sym c.before.before.judgement2.given.1)
+returns-2 : tie.Need-returns-in-Judged
+returns-2 c = c.of_judged.ensures ∙ ap verdict_numbers (sym c.before.before.judgement-in-Judged-1.given.1)
 
-pub of-verdict-spec : {M : Type 1} → statement M
-of-verdict-spec =
+pub of_verdict_spec : {M : Type 1} → statement M
+of_verdict_spec =
     tie.close
     (tie.spec
     enum-known-judgement

@@ -7,28 +7,28 @@ use Rattle.c_interface.specs.gimbal.Cosines.{floats_of}
 use Rattle.c_interface.proofs.gimbal.rooms.put_rows.Statement.{statement}
 use Rattle.c_interface.proofs.gimbal.rooms.put_rows.Tie as tie
 
-enum_told : tie.Need-enum-told
+enum_told : tie.Need-enum_told-1
 enum_told c = search rules
 
-enum-known-gimbal : tie.Need-enum-known-gimbal
+enum-known-gimbal : tie.Need-enum_known-gimbal
 enum-known-gimbal c = search rules
 
-put-cosines-requires : tie.Need-put-cosines-requires
+put-cosines-requires : tie.Need-put_cosines-requires
 put-cosines-requires c κs = search rules
 
-returns : tie.Need-returns
+returns : tie.Need-returns-in-Refused
 returns c = search rules
 
-same_length : tie.Need-same-length
+same_length : tie.Need-shape_of-room
 same_length c = search rules
 
-returns-2 : tie.Need-returns-2
+returns-2 : tie.Need-returns-in-Rows
 returns-2 c =
     let p = c.before.before in
     let known = p.before.before.before in
-    p.put-cosines.ensures ∙ ap (λ (g : Gimbal). written (floats_of g) known.before.before.before.args.room.now) (sym known.gimbal.given.1)
+    p.put_cosines.ensures ∙ ap (λ (g : Gimbal). written (floats_of g) known.before.before.before.args.room.now) (sym known.gimbal-1.given.1)
 
-pub put-rows-spec : {M : Type 1} → statement M
-put-rows-spec =
+pub put_rows_spec : {M : Type 1} → statement M
+put_rows_spec =
     tie.close
     (tie.spec enum_told enum-known-gimbal put-cosines-requires returns same_length returns-2)

@@ -13,10 +13,10 @@ use Rattle.c_interface.specs.guide.Rooms.{with_guide, with_guides}
 use Rattle.c_interface.proofs.guide.rooms.put_guides.Statement.{statement}
 use Rattle.c_interface.proofs.guide.rooms.put_guides.Tie as tie
 
-abbrev invariant-loop : tie.invariant-loop
+abbrev invariant-loop : tie.invariant-loop-i
 invariant-loop room₀ n guides i₀ room i = (i ≤ n) × (n ≤ 4) × (18 ≤ length room₀) × (length room ≡ length room₀) × (room ≡ with_guides guides i room₀)
 
-abbrev decreases-loop : tie.decreases-loop
+abbrev decreases-loop : tie.decreases-loop-i
 decreases-loop room₀ n guides i₀ room i = n - i
 
 guides-next : (guides : List Guide) (i : ℕ) (room : List ℤ) → with_guides guides (i + 1) room ≡ with_guide (with_guides guides i room) (2 + 4 * i)
@@ -24,36 +24,36 @@ guides-next : (guides : List Guide) (i : ℕ) (room : List ℤ) → with_guides 
 unfolding with_guides
 guides-next guides i room = rw add-one refl
 
-loop-holds : tie.Need-loop-init invariant-loop decreases-loop
+loop-holds : tie.Need-loop-i-init invariant-loop decreases-loop
 unfolding with_guides
 loop-holds c = (search rules, search rules, search rules, refl, refl)
 
-mul-guide : tie.Need-overflow-mul-guide invariant-loop decreases-loop
+mul-guide : tie.Need-offset_bounds-guides-i invariant-loop decreases-loop
 mul-guide c = search rules
 
-array-copy-out-guide : tie.Need-array-copy-out-guide invariant-loop decreases-loop
+array-copy-out-guide : tie.Need-bounds-guides-i invariant-loop decreases-loop
 array-copy-out-guide c = search rules
 
-mul-put-guide : tie.Need-overflow-mul-put-guide invariant-loop decreases-loop
+mul-put-guide : tie.Need-overflow_mul-i invariant-loop decreases-loop
 mul-put-guide c = search rules
 
-add-put-guide : tie.Need-overflow-add-put-guide invariant-loop decreases-loop
+add-put-guide : tie.Need-overflow_add-i invariant-loop decreases-loop
 add-put-guide c = search rules
 
-put-guide-requires : tie.Need-put-guide-requires invariant-loop decreases-loop
+put-guide-requires : tie.Need-put_guide-requires invariant-loop decreases-loop
 put-guide-requires c κs = search rules
 
-add-i : tie.Need-overflow-add-i invariant-loop decreases-loop
+add-i : tie.Need-overflow_add-i-in-loop-i invariant-loop decreases-loop
 add-i c = search rules
 
-loop-less : tie.Need-loop-smaller invariant-loop decreases-loop
+loop-less : tie.Need-loop-i-smaller invariant-loop decreases-loop
 loop-less c = search rules
 
-loop-again : tie.Need-loop-preserved invariant-loop decreases-loop
+loop-again : tie.Need-loop-i-preserved invariant-loop decreases-loop
 loop-again c =
-    let l = c.before.before.before.before.before.loop in
+    let l = c.before.before.before.before.before.loop-i in
     let s = c.before.before.before.before.before.before.args in
-    let e = c.before.put-guide.ensures in (
+    let e = c.before.put_guide.ensures in (
       search rules,
       l.invariant.1,
       l.invariant.2,
@@ -61,18 +61,18 @@ loop-again c =
       e ∙ ap (λ (xs : List ℤ). with_guide xs (2 + 4 * l.i) (get_or s.t2 l.i no_guide)) l.invariant.4 ∙ sym (guides-next s.t2 l.i s.room.now),
     )
 
-same_length : tie.Need-same-length invariant-loop decreases-loop
+same_length : tie.Need-shape_of-room invariant-loop decreases-loop
 same_length c = search rules
 
 returns : tie.Need-returns invariant-loop decreases-loop
 returns c =
-    let l = c.before.loop in
+    let l = c.before.loop-i in
     let s = c.before.before.args in
     let e : l.i ≡ s.n = omega arith in
     l.invariant.4 ∙ ap (λ (k : ℕ). with_guides s.t2 k s.room.now) e
 
-pub put-guides-spec : {M : Type 1} → statement M
-put-guides-spec =
+pub put_guides_spec : {M : Type 1} → statement M
+put_guides_spec =
     tie.close
     (tie.spec
     invariant-loop

@@ -17,40 +17,40 @@ module _ (xs : List ℤ) (at : ℕ) {n : ℕ} (e : n ≡ number_in xs at) where
   within : {x y : ℕ} → n ≤ largest_identity → x ≡ number_in xs (at + 1) → y ≡ number_in xs (at + 2) → record { identity = n; x = x; y = y } ≡ sighting_in xs at
   within h f g = rw (← e, ← f, ← g, le-ltb largest_identity n h) refl
 
-number-in-requires : tie.Need-number-in-requires
+number-in-requires : tie.Need-number_in-identity-requires
 number-in-requires c κs = search rules
 
-add-number-in : tie.Need-overflow-add-number-in
+add-number-in : tie.Need-overflow_add-at
 add-number-in c = search rules
 
-number-in-requires-2 : tie.Need-number-in-requires-2
+number-in-requires-2 : tie.Need-number_in-x-requires
 number-in-requires-2 c κs = search rules
 
-add-number-in-2 : tie.Need-overflow-add-number-in-2
+add-number-in-2 : tie.Need-overflow_add-at-2
 add-number-in-2 c = search rules
 
-number-in-requires-3 : tie.Need-number-in-requires-3
+number-in-requires-3 : tie.Need-number_in-y-requires
 number-in-requires-3 c κs = search rules
 
-returns : tie.Need-returns
+returns : tie.Need-returns-then-identity-gt4294967295
 returns c =
     let y = c.before in
     let n = y.before.before in
     let a = n.before.args in
-    beyond a.numbers.now a.at n.number_in.ensures c.if1.true
+    beyond a.numbers.now a.at n.number_in-identity.ensures c.if-identity-gt4294967295.true
 
-cast-t8 : tie.Need-overflow-cast-t8
+cast-t8 : tie.Need-overflow_cast-result
 cast-t8 c = search rules
 
-returns-2 : tie.Need-returns-2
+returns-2 : tie.Need-returns
 returns-2 c =
     let y = c.before in
     let n = y.before.before in
     let a = n.before.args in
-    within a.numbers.now a.at n.number_in.ensures (search rules) y.before.number-in2.ensures y.number-in3.ensures
+    within a.numbers.now a.at n.number_in-identity.ensures (search rules) y.before.number_in-x.ensures y.number_in-y.ensures
 
-pub sighting-in-spec : {M : Type 1} → statement M
-sighting-in-spec =
+pub sighting_in_spec : {M : Type 1} → statement M
+sighting_in_spec =
     tie.close
     (tie.spec
     number-in-requires

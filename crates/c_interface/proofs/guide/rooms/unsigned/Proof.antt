@@ -19,17 +19,17 @@ above : (z : ℤ) → lt_z z (pos 0) ≡ false → nat_abs z ≡ unsigned_of z
 unfolding unsigned_of
 above z e = rw e refl
 
-returns : tie.Need-returns
-returns c = below c.before.args.number (tested-lt {w = w64} (param c.before.ranges.number) (lit (pos 0) tt) c.if1.true)
+returns : tie.Need-returns-then-number-lt0
+returns c = below c.before.args.number (tested-lt {w = w64} (param c.before.ranges.number) (lit (pos 0) tt) c.if-number-lt0.true)
 
 abs-requires : tie.Need-abs-requires
 abs-requires c κs = search rules
 
-returns-2 : tie.Need-returns-2
+returns-2 : tie.Need-returns
 returns-2 c =
     let s = c.before.before in
     c.abs.ensures ∙ ap nat_abs (to_z-of_z w64 s.args.number s.ranges.number)
-    ∙ above s.args.number (tested-lt {w = w64} (param s.ranges.number) (lit (pos 0) tt) c.before.if1.false)
+    ∙ above s.args.number (tested-lt {w = w64} (param s.ranges.number) (lit (pos 0) tt) c.before.if-number-lt0.false)
 
-pub unsigned-spec : {M : Type 1} → statement M
-unsigned-spec = tie.close (tie.spec returns abs-requires returns-2)
+pub unsigned_spec : {M : Type 1} → statement M
+unsigned_spec = tie.close (tie.spec returns abs-requires returns-2)

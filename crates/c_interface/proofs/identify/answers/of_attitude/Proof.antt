@@ -5,26 +5,26 @@ use borrow.Author.Rules.{rules}
 use Rattle.c_interface.proofs.identify.answers.of_attitude.Statement.{statement}
 use Rattle.c_interface.proofs.identify.answers.of_attitude.Tie as tie
 
-enum-known-attitude : tie.Need-enum-known-attitude
+enum-known-attitude : tie.Need-enum_known-attitude
 enum-known-attitude c = search rules
 
-of-refusal-requires : tie.Need-of-refusal-requires
+of-refusal-requires : tie.Need-of_refusal-requires
 of-refusal-requires c κs = search rules
 
-enum-known-attitude-2 : tie.Need-enum-known-attitude-2
+enum-known-attitude-2 : tie.Need-enum_known-attitude-in-Found-1
 enum-known-attitude-2 c = search rules
 
-of-matrix-requires : tie.Need-of-matrix-requires
+of-matrix-requires : tie.Need-of_matrix-requires
 of-matrix-requires c κs = search rules
 
-returns : tie.Need-returns
-returns c = c.of-refusal.ensures ∙ ap attitude_numbers (sym c.before.before.attitude.given.1)
+returns : tie.Need-returns-in-Refused
+returns c = c.of_refusal.ensures ∙ ap attitude_numbers (sym c.before.before.attitude-1.given.1)
 
-returns-2 : tie.Need-returns-2
-returns-2 c = c.of-matrix.ensures ∙ ap attitude_numbers (sym c.before.before.attitude2.given.1)
+returns-2 : tie.Need-returns-in-Found
+returns-2 c = c.of_matrix.ensures ∙ ap attitude_numbers (sym c.before.before.attitude-in-Found-1.given.1)
 
-pub of-attitude-spec : {M : Type 1} → statement M
-of-attitude-spec =
+pub of_attitude_spec : {M : Type 1} → statement M
+of_attitude_spec =
     tie.close
     (tie.spec
     enum-known-attitude

@@ -8,13 +8,13 @@ use borrow.Author.Rules.{rules}
 use Rattle.c_interface.proofs.identify.answers.of_search.Statement.{statement}
 use Rattle.c_interface.proofs.identify.answers.of_search.Tie as tie
 
-of-count-requires : tie.Need-of-count-requires
+of-count-requires : tie.Need-of_count-requires
 of-count-requires c κs = search rules
 
-put-names-requires : tie.Need-put-names-requires
+put-names-requires : tie.Need-put_names-named-requires
 put-names-requires c κs = search rules
 
-of-outcome-requires : tie.Need-of-outcome-requires
+of-outcome-requires : tie.Need-of_outcome-requires
 of-outcome-requires c κs = search rules
 
 returns : tie.Need-returns
@@ -22,11 +22,11 @@ unfolding joined with_names
 returns c =
     let names = c.before in
     let a = names.before.before.before.args in
-    c.of-outcome.ensures
+    c.of_outcome.ensures
     ∙ ap (outcome_numbers a.identification.outcome)
-    (names.put-names.ensures ∙ ap (λ (xs : List ℤ). with_names 3 a.identification.stars a.directions a.stars 8 xs)
-    names.before.of-count.ensures)
+    (names.put_names-named.ensures ∙ ap (λ (xs : List ℤ). with_names 3 a.identification.stars a.directions a.stars 8 xs)
+    names.before.of_count.ensures)
 
-pub of-search-spec : {M : Type 1} → statement M
-of-search-spec =
+pub of_search_spec : {M : Type 1} → statement M
+of_search_spec =
     tie.close (tie.spec of-count-requires put-names-requires of-outcome-requires returns)

@@ -11,59 +11,59 @@ use borrow.Author.Rules.{rules}
 use Rattle.ranking_by_index.proofs.votes.by_catalogue.vote_all.Statement.{statement}
 use Rattle.ranking_by_index.proofs.votes.by_catalogue.vote_all.Tie as tie
 
-abbrev invariant-loop : tie.invariant-loop
+abbrev invariant-loop : tie.invariant-loop-b
 invariant-loop stars lower upper votes₀ total b₀ votes b =
     (b ≤ total)
     × (length votes ≡ length votes₀)
     × ((c : ℕ) → get_or votes c 0 ≡ get_or votes₀ c 0 + sum_to b (row_votes stars lower upper c))
 
-abbrev decreases-loop : tie.decreases-loop
+abbrev decreases-loop : tie.decreases-loop-b
 decreases-loop stars lower upper votes₀ total b₀ votes b = total - b
 
-loop-holds : tie.Need-loop-init invariant-loop decreases-loop
+loop-holds : tie.Need-loop-b-init invariant-loop decreases-loop
 loop-holds c = (omega arith, refl, λ k. sum-empty _ _)
 
-vote-row-requires : tie.Need-vote-row-requires invariant-loop decreases-loop
+vote-row-requires : tie.Need-vote_row-requires invariant-loop decreases-loop
 vote-row-requires c κs =
     let l = c.before.before in
     let s = l.before.before in
     let x = s.args in
-    let n : l.loop.b ≤ 512 = omega (arith, s.requires.0.few) in (
+    let n : l.loop-b.b ≤ 512 = omega (arith, s.requires.0.few) in (
       s.requires.0,
       (
         omega arith,
         (
-          l.loop.invariant.1 ∙ s.requires.1.0,
+          l.loop-b.invariant.1 ∙ s.requires.1.0,
           λ k.
               omega (
                 arith,
-                l.loop.invariant.2 k,
+                l.loop-b.invariant.2 k,
                 s.requires.1.1 k,
-                sum_bound 1024 l.loop.b (row_votes x.stars.now x.lower x.upper k)
+                sum_bound 1024 l.loop-b.b (row_votes x.stars.now x.lower x.upper k)
                     (λ b h. omega (arith, row-most x.stars.now x.lower x.upper k b)),
               ),
         ),
       ),
     )
 
-add-b : tie.Need-overflow-add-b invariant-loop decreases-loop
+add-b : tie.Need-overflow_add-b invariant-loop decreases-loop
 add-b c = search rules
 
-loop-less : tie.Need-loop-smaller invariant-loop decreases-loop
+loop-less : tie.Need-loop-b-smaller invariant-loop decreases-loop
 loop-less c = search rules
 
-loop-again : tie.Need-loop-preserved invariant-loop decreases-loop
+loop-again : tie.Need-loop-b-preserved invariant-loop decreases-loop
 loop-again c =
-    let w = c.before.before.vote-row in
+    let w = c.before.before.vote_row in
     let l = c.before.before.before.before.before in
     let x = l.before.before.args in (
       omega arith,
-      w.auto.1.1.1.1.0 ∙ l.loop.invariant.1,
+      w.auto.1.1.1.1.0 ∙ l.loop-b.invariant.1,
       λ k.
-          omega (arith, w.ensures k, l.loop.invariant.2 k, sum-next l.loop.b (row_votes x.stars.now x.lower x.upper k)),
+          omega (arith, w.ensures k, l.loop-b.invariant.2 k, sum-next l.loop-b.b (row_votes x.stars.now x.lower x.upper k)),
     )
 
-same_length : tie.Need-same-length invariant-loop decreases-loop
+same_length : tie.Need-shape_of-votes invariant-loop decreases-loop
 same_length c = search rules
 
 returns : tie.Need-returns invariant-loop decreases-loop
@@ -71,11 +71,11 @@ unfolding all_votes
 returns c =
     let l = c.before in
     let x = l.before.before.args in
-    let e : l.loop.b ≡ triples x.stars.now = omega arith in
-    λ k. l.loop.invariant.2 k ∙ ap (λ (n : ℕ). get_or x.votes.now k 0 + sum_to n (row_votes x.stars.now x.lower x.upper k)) e
+    let e : l.loop-b.b ≡ triples x.stars.now = omega arith in
+    λ k. l.loop-b.invariant.2 k ∙ ap (λ (n : ℕ). get_or x.votes.now k 0 + sum_to n (row_votes x.stars.now x.lower x.upper k)) e
 
-pub vote-all-spec : {M : Type 1} → statement M
-vote-all-spec =
+pub vote_all_spec : {M : Type 1} → statement M
+vote_all_spec =
     tie.close
     (tie.spec
     invariant-loop

@@ -19,16 +19,16 @@ use Rattle.ranking_by_index.proofs.votes.by_catalogue.vote_below.Tie as tie
 abbrev part : List ℤ → ℕ → ℕ → ℕ → List ℤ → ℕ → ℕ → ℕ
 part products i tolerance floor stars c j = adds (by_catalogue floor tolerance) (get_or products j (pos 0)) stars tolerance i c j
 
-abbrev invariant-loop : tie.invariant-loop
+abbrev invariant-loop : tie.invariant-loop-j
 invariant-loop stars products count i tolerance floor votes₀ j₀ votes j =
     (j ≤ count)
     × (length votes ≡ length votes₀)
     × ((c : ℕ) → get_or votes c 0 ≡ get_or votes₀ c 0 + sum_to j (part products i tolerance floor stars c))
 
-abbrev decreases-loop : tie.decreases-loop
+abbrev decreases-loop : tie.decreases-loop-j
 decreases-loop stars products count i tolerance floor votes₀ j₀ votes j = count - j
 
-loop-holds : tie.Need-loop-init invariant-loop decreases-loop
+loop-holds : tie.Need-loop-j-init invariant-loop decreases-loop
 loop-holds c = (omega arith, refl, λ k. sum-empty _ _)
 
 vote-requires : tie.Need-vote-requires invariant-loop decreases-loop
@@ -37,7 +37,7 @@ vote-requires c κs =
     let s = l.before.before in
     let x = s.args in
     let p = s.requires.1.1.1.1 in
-    let n : l.loop.j ≤ 8 = omega (arith, s.requires.1.0.0) in (
+    let n : l.loop-j.j ≤ 8 = omega (arith, s.requires.1.0.0) in (
       s.requires.0,
       (
         omega (arith, s.requires.1.0.1),
@@ -46,13 +46,13 @@ vote-requires c κs =
           (
             s.requires.1.1.1.0,
             (
-              l.loop.invariant.1 ∙ p.0,
+              l.loop-j.invariant.1 ∙ p.0,
               λ k.
                   omega (
                     arith,
-                    l.loop.invariant.2 k,
+                    l.loop-j.invariant.2 k,
                     p.1 k,
-                    sum_bound 512 l.loop.j
+                    sum_bound 512 l.loop-j.j
                         (part x.products.now x.i x.tolerance x.floor x.stars.now k)
                         (λ j h. adds-most (by_catalogue x.floor x.tolerance) (get_or x.products.now j (pos 0)) x.stars.now x.tolerance x.i k j
                         s.requires.0.few),
@@ -63,38 +63,38 @@ vote-requires c κs =
       ),
     )
 
-add-j : tie.Need-overflow-add-j invariant-loop decreases-loop
+add-j : tie.Need-overflow_add-j invariant-loop decreases-loop
 add-j c = search rules
 
-loop-less : tie.Need-loop-smaller invariant-loop decreases-loop
+loop-less : tie.Need-loop-j-smaller invariant-loop decreases-loop
 loop-less c = search rules
 
-loop-again : tie.Need-loop-preserved invariant-loop decreases-loop
+loop-again : tie.Need-loop-j-preserved invariant-loop decreases-loop
 loop-again c =
     let w = c.before.before.vote in
     let l = c.before.before.before.before.before in
     let x = l.before.before.args in (
       omega arith,
-      w.auto.1.1.1.1.1.1.0 ∙ l.loop.invariant.1,
+      w.auto.1.1.1.1.1.1.0 ∙ l.loop-j.invariant.1,
       λ k.
-          omega (arith, w.ensures k, l.loop.invariant.2 k, sum-next l.loop.j (part x.products.now x.i x.tolerance x.floor x.stars.now k)),
+          omega (arith, w.ensures k, l.loop-j.invariant.2 k, sum-next l.loop-j.j (part x.products.now x.i x.tolerance x.floor x.stars.now k)),
     )
 
-same_length : tie.Need-same-length invariant-loop decreases-loop
+same_length : tie.Need-shape_of-votes invariant-loop decreases-loop
 same_length c = search rules
 
 returns : tie.Need-returns invariant-loop decreases-loop
 returns c =
     let l = c.before in
     let x = l.before.before.args in
-    let d : l.loop.j ≡ x.count = omega arith in
+    let d : l.loop-j.j ≡ x.count = omega arith in
     λ k.
-    l.loop.invariant.2 k ∙ ap (λ (n : ℕ). get_or x.votes.now k 0 + n)
+    l.loop-j.invariant.2 k ∙ ap (λ (n : ℕ). get_or x.votes.now k 0 + n)
     (ap (λ (n : ℕ). sum_to n (part x.products.now x.i x.tolerance x.floor x.stars.now k)) d
     ∙ sym (by-sum (by_catalogue x.floor x.tolerance) (setting x.products.now x.count x.i x.stars.now x.tolerance) k))
 
-pub vote-below-spec : {M : Type 1} → statement M
-vote-below-spec =
+pub vote_below_spec : {M : Type 1} → statement M
+vote_below_spec =
     tie.close
     (tie.spec
     invariant-loop

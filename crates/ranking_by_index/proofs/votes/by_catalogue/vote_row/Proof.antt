@@ -10,19 +10,19 @@ use borrow.Author.Rules.{rules}
 use Rattle.ranking_by_index.proofs.votes.by_catalogue.vote_row.Statement.{statement}
 use Rattle.ranking_by_index.proofs.votes.by_catalogue.vote_row.Tie as tie
 
-abbrev invariant-loop : tie.invariant-loop
+abbrev invariant-loop : tie.invariant-loop-a
 invariant-loop stars lower upper b votes₀ a₀ votes a =
     (a ≤ b)
     × (length votes ≡ length votes₀)
     × ((c : ℕ) → get_or votes c 0 ≡ get_or votes₀ c 0 + sum_to a (meets (in_span stars lower upper) c b))
 
-abbrev decreases-loop : tie.decreases-loop
+abbrev decreases-loop : tie.decreases-loop-a
 decreases-loop stars lower upper b votes₀ a₀ votes a = b - a
 
-loop-holds : tie.Need-loop-init invariant-loop decreases-loop
+loop-holds : tie.Need-loop-a-init invariant-loop decreases-loop
 loop-holds c = (omega arith, refl, λ k. sum-empty _ _)
 
-vote-pair-requires : tie.Need-vote-pair-requires invariant-loop decreases-loop
+vote-pair-requires : tie.Need-vote_pair-requires invariant-loop decreases-loop
 vote-pair-requires c κs =
     let l = c.before.before in
     let s = l.before.before in
@@ -31,39 +31,39 @@ vote-pair-requires c κs =
       (
         (omega arith, s.requires.1.0),
         (
-          l.loop.invariant.1 ∙ s.requires.1.1.0,
+          l.loop-a.invariant.1 ∙ s.requires.1.1.0,
           λ k.
               omega (
                 arith,
                 s.requires.0.few,
                 s.requires.1.0,
-                l.loop.invariant.2 k,
+                l.loop-a.invariant.2 k,
                 s.requires.1.1.1 k,
-                sum_bound 2 l.loop.a (meets (in_span x.stars.now x.lower x.upper) k x.b)
+                sum_bound 2 l.loop-a.a (meets (in_span x.stars.now x.lower x.upper) k x.b)
                     (λ a h. meets-most x.stars.now x.lower x.upper k x.b a),
               ),
         ),
       ),
     )
 
-add_a : tie.Need-overflow-add-a invariant-loop decreases-loop
+add_a : tie.Need-overflow_add-a invariant-loop decreases-loop
 add_a c = search rules
 
-loop-less : tie.Need-loop-smaller invariant-loop decreases-loop
+loop-less : tie.Need-loop-a-smaller invariant-loop decreases-loop
 loop-less c = search rules
 
-loop-again : tie.Need-loop-preserved invariant-loop decreases-loop
+loop-again : tie.Need-loop-a-preserved invariant-loop decreases-loop
 loop-again c =
-    let w = c.before.before.vote-pair in
+    let w = c.before.before.vote_pair in
     let l = c.before.before.before.before.before in
     let x = l.before.before.args in (
       omega arith,
-      w.auto.1.1.1.1.1.0 ∙ l.loop.invariant.1,
+      w.auto.1.1.1.1.1.0 ∙ l.loop-a.invariant.1,
       λ k.
-          omega (arith, w.ensures k, l.loop.invariant.2 k, sum-next l.loop.a (meets (in_span x.stars.now x.lower x.upper) k x.b)),
+          omega (arith, w.ensures k, l.loop-a.invariant.2 k, sum-next l.loop-a.a (meets (in_span x.stars.now x.lower x.upper) k x.b)),
     )
 
-same_length : tie.Need-same-length invariant-loop decreases-loop
+same_length : tie.Need-shape_of-votes invariant-loop decreases-loop
 same_length c = search rules
 
 returns : tie.Need-returns invariant-loop decreases-loop
@@ -71,11 +71,11 @@ unfolding row_votes
 returns c =
     let l = c.before in
     let x = l.before.before.args in
-    let e : l.loop.a ≡ x.b = omega arith in
-    λ k. l.loop.invariant.2 k ∙ ap (λ (n : ℕ). get_or x.votes.now k 0 + sum_to n (meets (in_span x.stars.now x.lower x.upper) k x.b)) e
+    let e : l.loop-a.a ≡ x.b = omega arith in
+    λ k. l.loop-a.invariant.2 k ∙ ap (λ (n : ℕ). get_or x.votes.now k 0 + sum_to n (meets (in_span x.stars.now x.lower x.upper) k x.b)) e
 
-pub vote-row-spec : {M : Type 1} → statement M
-vote-row-spec =
+pub vote_row_spec : {M : Type 1} → statement M
+vote_row_spec =
     tie.close
     (tie.spec
     invariant-loop

@@ -21,17 +21,17 @@ use Rattle.ranking_by_index.proofs.votes.by_index.vote_above.Tie as tie
 abbrev part : List ℤ → ℕ → ℕ → ℕ → List ℤ → ℕ → ℕ → ℕ
 part products i tolerance floor stars c j = adds (by_index floor tolerance) (get_or products j (pos 0)) stars tolerance i c j
 
-abbrev invariant-loop : tie.invariant-loop
+abbrev invariant-loop : tie.invariant-loop-j
 invariant-loop index products count i tolerance floor votes₀ j₀ votes j =
     (j ≤ count)
     × (length votes ≡ length votes₀)
     × ((stars : List ℤ) → Listed 512 stars → index ≡ bytes_from stars floor
     → (c : ℕ) → get_or votes c 0 ≡ get_or votes₀ c 0 + sum_to j (part products i tolerance floor stars c))
 
-abbrev decreases-loop : tie.decreases-loop
+abbrev decreases-loop : tie.decreases-loop-j
 decreases-loop index products count i tolerance floor votes₀ j₀ votes j = count - j
 
-loop-holds : tie.Need-loop-init invariant-loop decreases-loop
+loop-holds : tie.Need-loop-j-init invariant-loop decreases-loop
 loop-holds c = (omega arith, refl, λ stars h e k. sum-empty _ _)
 
 vote-requires : tie.Need-vote-requires invariant-loop decreases-loop
@@ -41,9 +41,9 @@ vote-requires c κs =
     let s = t.before in
     let x = s.args in
     let w = s.requires.0 in
-    let b : Bytes x.index.now = λ n. (t.shared-slice-known.given n).fits in
+    let b : Bytes x.index.now = λ n. (t.shared_slice_known-1.given n).fits in
     let p = s.requires.1.1.1.1 in
-    let n : l.loop.j ≤ 8 = omega (arith, s.requires.1.0.0) in (
+    let n : l.loop-j.j ≤ 8 = omega (arith, s.requires.1.0.0) in (
       index-usable w.stars x.floor x.index.now w.listed b w.right,
       (
         index-few w.stars x.floor x.index.now w.listed b w.right,
@@ -54,13 +54,13 @@ vote-requires c κs =
             (
               s.requires.1.1.1.0,
               (
-                l.loop.invariant.1 ∙ p.0,
+                l.loop-j.invariant.1 ∙ p.0,
                 λ k.
                     omega (
                       arith,
-                      l.loop.invariant.2 w.stars w.listed w.right k,
+                      l.loop-j.invariant.2 w.stars w.listed w.right k,
                       p.1 k,
-                      sum_bound 512 l.loop.j (part x.products.now x.i x.tolerance x.floor w.stars k)
+                      sum_bound 512 l.loop-j.j (part x.products.now x.i x.tolerance x.floor w.stars k)
                           (λ j h. adds-most (by_index x.floor x.tolerance) (get_or x.products.now j (pos 0)) w.stars x.tolerance x.i k j
                           w.listed.few),
                     ),
@@ -71,45 +71,45 @@ vote-requires c κs =
       ),
     )
 
-add-j : tie.Need-overflow-add-j invariant-loop decreases-loop
+add-j : tie.Need-overflow_add-j invariant-loop decreases-loop
 add-j c = search rules
 
-loop-less : tie.Need-loop-smaller invariant-loop decreases-loop
+loop-less : tie.Need-loop-j-smaller invariant-loop decreases-loop
 loop-less c = search rules
 
-loop-again : tie.Need-loop-preserved invariant-loop decreases-loop
+loop-again : tie.Need-loop-j-preserved invariant-loop decreases-loop
 loop-again c =
     let w = c.before.before.vote in
     let l = c.before.before.before.before.before in
     let x = l.before.before.before.args in (
       omega arith,
-      w.auto.1.1.1.1.1.1.0 ∙ l.loop.invariant.1,
+      w.auto.1.1.1.1.1.1.0 ∙ l.loop-j.invariant.1,
       λ stars h e k.
           omega (
             arith,
             w.ensures.added stars h e k,
-            l.loop.invariant.2 stars h e k,
-            sum-next l.loop.j (part x.products.now x.i x.tolerance x.floor stars k),
+            l.loop-j.invariant.2 stars h e k,
+            sum-next l.loop-j.j (part x.products.now x.i x.tolerance x.floor stars k),
           ),
     )
 
-same_length : tie.Need-same-length invariant-loop decreases-loop
+same_length : tie.Need-shape_of-votes invariant-loop decreases-loop
 same_length c = search rules
 
 returns : tie.Need-returns invariant-loop decreases-loop
 returns c =
     let l = c.before in
     let x = l.before.before.before.args in
-    let d : l.loop.j ≡ x.count = omega arith in
+    let d : l.loop-j.j ≡ x.count = omega arith in
     record {
       added = λ stars h e k.
-          l.loop.invariant.2 stars h e k ∙ ap (λ (n : ℕ). get_or x.votes.now k 0 + n)
+          l.loop-j.invariant.2 stars h e k ∙ ap (λ (n : ℕ). get_or x.votes.now k 0 + n)
           (ap (λ (n : ℕ). sum_to n (part x.products.now x.i x.tolerance x.floor stars k)) d
           ∙ sym (by-sum (by_index x.floor x.tolerance) (setting x.products.now x.count x.i stars x.tolerance) k));
     }
 
-pub vote-above-spec : {M : Type 1} → statement M
-vote-above-spec =
+pub vote_above_spec : {M : Type 1} → statement M
+vote_above_spec =
     tie.close
     (tie.spec
     invariant-loop

@@ -17,29 +17,29 @@ use Rattle.ranking_by_index.proofs.votes.by_index.walk.Tie as tie
 abbrev gives : List ℕ → ℕ → ℕ → ℕ → ℕ → ℕ
 gives index lower upper c k = given lower upper c (high_at index k) (low_at index k)
 
-abbrev invariant-loop : tie.invariant-loop
+abbrev invariant-loop : tie.invariant-loop-i
 invariant-loop index lower upper votes₀ count i₀ votes i =
     (i₀ ≤ i)
     × (i ≤ count)
     × (length votes ≡ length votes₀)
     × ((c : ℕ) → get_or votes c 0 ≡ get_or votes₀ c 0 + sum_to i (gives index lower upper c))
 
-abbrev decreases-loop : tie.decreases-loop
+abbrev decreases-loop : tie.decreases-loop-i
 decreases-loop index lower upper votes₀ count i₀ votes i = count - i
 
-first-from-requires : tie.Need-first-from-requires invariant-loop decreases-loop
+first-from-requires : tie.Need-first_from-i-requires invariant-loop decreases-loop
 first-from-requires c κs = search rules
 
-loop-holds : tie.Need-loop-init invariant-loop decreases-loop
+loop-holds : tie.Need-loop-i-init invariant-loop decreases-loop
 loop-holds c =
-    let f = c.first-from.ensures in
+    let f = c.first_from-i.ensures in
     let x = c.before.before.before.args in (
       omega arith,
       f.0,
       refl,
       λ k. omega (
         arith,
-        sum-none c.first-from.result (gives x.index.now x.lower x.upper k)
+        sum-none c.first_from-i.result (gives x.index.now x.lower x.upper k)
             (λ j h. given_below x.lower x.upper k (high_at x.index.now j) (low_at x.index.now j) (f.1.0 j h)),
       ),
     )
@@ -47,43 +47,43 @@ loop-holds c =
 high-requires : tie.Need-high-requires invariant-loop decreases-loop
 high-requires c κs = search rules
 
-same_length : tie.Need-same-length invariant-loop decreases-loop
+same_length : tie.Need-shape_of-votes-then-upper-high invariant-loop decreases-loop
 same_length c = search rules
 
-returns : tie.Need-returns invariant-loop decreases-loop
+returns : tie.Need-returns-then-upper-high invariant-loop decreases-loop
 unfolding span_votes
 returns c =
     let h = c.before.high.ensures in
     let l = c.before.before.before in
     let s = l.before.before.before.before in
     let x = s.args in
-    let i = l.loop.i in
+    let i = l.loop-i.i in
     let n = length x.index.now / 12 in
     λ k.
     omega (
       arith,
-      l.loop.invariant.3 k,
+      l.loop-i.invariant.3 k,
       sum-rest i n (gives x.index.now x.lower x.upper k) (omega arith)
           (λ j p q. given_above x.lower x.upper k (high_at x.index.now j) (low_at x.index.now j)
-          (omega (arith, s.requires.0.rising i j p q, c.if1.true))),
+          (omega (arith, s.requires.0.rising i j p q, c.if-upper-high.true))),
     )
 
 low-requires : tie.Need-low-requires invariant-loop decreases-loop
 low-requires c κs = search rules
 
-vote-both-requires : tie.Need-vote-both-requires invariant-loop decreases-loop
+vote-both-requires : tie.Need-vote_both-requires invariant-loop decreases-loop
 vote-both-requires c κs =
     let l = c.before.before.before.before.before in
     let s = l.before.before.before.before in
     let x = s.args in
     let e = c.low.ensures in
-    let i = l.loop.i in
+    let i = l.loop-i.i in
     let j : i < length x.index.now / 12 = omega arith in (
       (omega (arith, e, s.requires.0.first i j, s.requires.1.0), omega (arith, e, s.requires.0.second i j, s.requires.1.0)),
       λ k.
           omega (
             arith,
-            l.loop.invariant.3 k,
+            l.loop-i.invariant.3 k,
             s.requires.1.1.1 k,
             s.requires.1.1.0,
             sum-most i 0 (gives x.index.now x.lower x.upper k)
@@ -91,51 +91,51 @@ vote-both-requires c κs =
           ),
     )
 
-add-i : tie.Need-overflow-add-i invariant-loop decreases-loop
+add-i : tie.Need-overflow_add-i invariant-loop decreases-loop
 add-i c = search rules
 
-loop-less : tie.Need-loop-smaller invariant-loop decreases-loop
+loop-less : tie.Need-loop-i-smaller invariant-loop decreases-loop
 loop-less c = search rules
 
-loop-again : tie.Need-loop-preserved invariant-loop decreases-loop
+loop-again : tie.Need-loop-i-preserved invariant-loop decreases-loop
 loop-again c =
-    let w = c.before.before.vote-both in
+    let w = c.before.before.vote_both in
     let e = c.before.before.before.low.ensures in
     let t = c.before.before.before.before.before in
     let h = t.before.high.ensures in
     let l = t.before.before.before in
-    let d = l.before.first-from.ensures in
+    let d = l.before.first_from-i.ensures in
     let x = l.before.before.before.before.args in
-    let i = l.loop.i in
-    let b : x.lower ≤ high_at x.index.now i = d.1.1 i l.loop.invariant.0 (omega arith) in
-    let a : high_at x.index.now i ≤ x.upper = omega (arith, t.if1.false) in (
+    let i = l.loop-i.i in
+    let b : x.lower ≤ high_at x.index.now i = d.1.1 i l.loop-i.invariant.0 (omega arith) in
+    let a : high_at x.index.now i ≤ x.upper = omega (arith, t.if-upper-high.false) in (
       omega arith,
       omega arith,
-      w.auto.0 ∙ l.loop.invariant.2,
+      w.auto.0 ∙ l.loop-i.invariant.2,
       λ k.
           omega (
             arith,
             w.ensures k,
-            l.loop.invariant.3 k,
+            l.loop-i.invariant.3 k,
             sum-next i (gives x.index.now x.lower x.upper k),
             given-in x.lower x.upper k (high_at x.index.now i) (low_at x.index.now i) b a,
             ap (named k) e,
           ),
     )
 
-same-length-2 : tie.Need-same-length-2 invariant-loop decreases-loop
+same-length-2 : tie.Need-shape_of-votes invariant-loop decreases-loop
 same-length-2 c = search rules
 
-returns-2 : tie.Need-returns-2 invariant-loop decreases-loop
+returns-2 : tie.Need-returns invariant-loop decreases-loop
 unfolding span_votes
 returns-2 c =
     let l = c.before in
     let x = l.before.before.before.before.args in
-    let e : l.loop.i ≡ length x.index.now / 12 = omega arith in
-    λ k. l.loop.invariant.3 k ∙ ap (λ (n : ℕ). get_or x.votes.now k 0 + sum_to n (gives x.index.now x.lower x.upper k)) e
+    let e : l.loop-i.i ≡ length x.index.now / 12 = omega arith in
+    λ k. l.loop-i.invariant.3 k ∙ ap (λ (n : ℕ). get_or x.votes.now k 0 + sum_to n (gives x.index.now x.lower x.upper k)) e
 
-pub walk-spec : {M : Type 1} → statement M
-walk-spec =
+pub walk_spec : {M : Type 1} → statement M
+walk_spec =
     tie.close
     (tie.spec
     invariant-loop

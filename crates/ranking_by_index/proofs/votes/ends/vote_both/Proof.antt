@@ -10,41 +10,41 @@ use borrow.Author.Rules.{rules}
 use Rattle.ranking_by_index.proofs.votes.ends.vote_both.Statement.{statement}
 use Rattle.ranking_by_index.proofs.votes.ends.vote_both.Tie as tie
 
-cast-a : tie.Need-overflow-cast-a
+cast-a : tie.Need-overflow_cast-a
 cast-a c = search rules
 
-cast-b : tie.Need-overflow-cast-b
+cast-b : tie.Need-overflow_cast-b
 cast-b c = search rules
 
-mul-votes : tie.Need-overflow-mul-votes
+mul-votes : tie.Need-offset_bounds-votes-a
 mul-votes c = search rules
 
-slice-read-votes : tie.Need-slice-read-votes
+slice-read-votes : tie.Need-bounds-votes-a
 slice-read-votes c = search rules
 
-add-votes : tie.Need-overflow-add-votes
+add-votes : tie.Need-overflow_add-votes
 add-votes c = omega (arith, c.before.requires.1 (c.before.args.ends / 65536))
 
-slice-write-votes : tie.Need-slice-write-votes
+slice-write-votes : tie.Need-bounds-votes-a-2
 slice-write-votes c = search rules
 
-mul-votes-2 : tie.Need-overflow-mul-votes-2
+mul-votes-2 : tie.Need-offset_bounds-votes-b
 mul-votes-2 c = search rules
 
-slice-read-votes-2 : tie.Need-slice-read-votes-2
+slice-read-votes-2 : tie.Need-bounds-votes-b
 slice-read-votes-2 c = search rules
 
-add-votes-2 : tie.Need-overflow-add-votes-2
+add-votes-2 : tie.Need-overflow_add-votes-2
 add-votes-2 c =
     let s = c.before.before in
     let x = s.args in
     let b = x.ends % 65536 in
     omega (arith, s.requires.1 b, raised_at x.votes.now (x.ends / 65536) b s.requires.0.0, one-most (eqb b (x.ends / 65536)))
 
-slice-write-votes-2 : tie.Need-slice-write-votes-2
+slice-write-votes-2 : tie.Need-bounds-votes-b-2
 slice-write-votes-2 c = search rules
 
-same_length : tie.Need-same-length
+same_length : tie.Need-shape_of-votes
 same_length c = search rules
 
 returns : tie.Need-returns
@@ -58,8 +58,8 @@ returns c =
     let m = set l a (get_or l a 0 + 1) in
     λ k. omega (arith, raised_at l a k s.requires.0.0, raised_at m b k (rw length-set s.requires.0.1))
 
-pub vote-both-spec : {M : Type 1} → statement M
-vote-both-spec =
+pub vote_both_spec : {M : Type 1} → statement M
+vote_both_spec =
     tie.close
     (tie.spec
     cast-a
