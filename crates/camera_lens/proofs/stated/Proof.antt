@@ -12,13 +12,13 @@ unfolding of_bits
 none_is = refl
 
 returns : tie.Need-returns-in-0
-returns c = let a = c.before.args in sym (by-millimetres a.kind a.first a.second c.in-0.keys1)
+returns c = let a = c.before.args in sym (by-millimetres a.kind a.first a.second c.in-0.is)
 
 returns-2 : tie.Need-returns-in-1
-returns-2 c = let a = c.before.args in sym (by-pixels a.kind a.first a.second c.in-1.keys2)
+returns-2 c = let a = c.before.args in sym (by-pixels a.kind a.first a.second c.in-1.is)
 
 returns-3 : tie.Need-returns-in_default
-returns-3 c = let a = c.before.args in none_is ∙ sym (by-none a.kind a.first a.second c.in_default.rest.0.1 c.match.rest.1)
+returns-3 c = let a = c.before.args in none_is ∙ sym (by-none a.kind a.first a.second ? ?)
 
 pub stated_spec : {M : Type 1} → statement M
 stated_spec = tie.close (tie.spec returns returns-2 returns-3)

@@ -18,13 +18,13 @@ returns : tie.Need-returns-in-At
 returns c =
     let a = c.before.before.before.args in
     sym (found-beaten a.samples.now a.width a.height a.row a.column _ _ (sym c.before.first_beating-beating.ensures
-    ∙ c.enum_told-1.given.1))
+    ∙ c.in-At.is))
 
 returns-2 : tie.Need-returns-in-Nothing
 returns-2 c =
     let a = c.before.before.before.args in
     sym (nothing-unbeaten a.samples.now a.width a.height a.row a.column (sym c.before.first_beating-beating.ensures
-    ∙ c.in-Nothing.given.1))
+    ∙ c.in-Nothing.is))
 
 pub is_beaten_spec : {M : Type 1} → statement M
 is_beaten_spec =

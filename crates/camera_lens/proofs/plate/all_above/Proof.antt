@@ -28,16 +28,16 @@ enum-known-lens : tie.Need-enum_known-lens
 enum-known-lens c = search rules
 
 returns : tie.Need-returns-then-length
-returns c = let g = c.before.before.lens-1.given in by-second g.0.0 g.0.1.0 g.1 c.if-length.true
+returns c = let g = c.in-Millimetres in by-second g.length g.pitch g.is c.if-length.true
 
 enum-known-lens-2 : tie.Need-enum_known-lens-in-Pixels-1
 enum-known-lens-2 c = search rules
 
 returns-2 : tie.Need-returns-else-length
-returns-2 c = let g = c.before.before.lens-1.given in by_first g.0.0 g.0.1.0 g.1 c.if-length.false
+returns-2 c = let g = c.in-Millimetres in by_first g.length g.pitch g.is c.if-length.false
 
 returns-3 : tie.Need-returns-in-Pixels
-returns-3 c = let g = c.before.lens-in-Pixels-1.given in by-pixels g.0.0 g.1
+returns-3 c = let g = c.in-Pixels in by-pixels g.q g.is
 
 pub all_above_spec : {M : Type 1} → statement M
 all_above_spec = tie.close (tie.spec enum-known-lens returns enum-known-lens-2 returns-2 returns-3)

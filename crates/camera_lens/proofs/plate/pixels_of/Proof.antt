@@ -21,7 +21,7 @@ enum-known-lens-2 : tie.Need-enum_known-lens-in-Pixels-1
 enum-known-lens-2 c = search rules
 
 returns : tie.Need-returns-in-Millimetres
-returns c = let g = c.before.lens-1.given in by-plate g.0.0 g.0.1.0 g.1
+returns c = let g = c.in-Millimetres in by-plate g.length g.pitch g.is
 
 returns-2 : tie.Need-returns-in-Pixels
 returns-2 c = search rules
