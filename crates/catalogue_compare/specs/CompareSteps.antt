@@ -65,10 +65,10 @@ module _ (first second : List ℕ) where
       unfolding Silent
       long-enough h = rest e ∙ silent-accepted _ (le-ltb size (length (changes_of first second)) (omega (arith, changes-length first second)), tt)
 
-  pub room_after : (room : List ℕ) {o : Outcome} → first_applying (refusals_of first second (length room)) ≡ o
+  pub room_after_lem : (room : List ℕ) {o : Outcome} → first_applying (refusals_of first second (length room)) ≡ o
       → room_after first second room ≡ answered (λ _. room) (at_front (changes_of first second) room) o
   unfolding room_after
-  room_after room e = ap (λ (o : Outcome). answered (λ _. room) (at_front (changes_of first second) room) o) e
+  room_after_lem room e = ap (λ (o : Outcome). answered (λ _. room) (at_front (changes_of first second) room) o) e
 
   -- ---- an accepted call
 
@@ -89,4 +89,4 @@ module _ (first second : List ℕ) where
 
     -- and stands at its front
     pub records-there : room_after first second room ≡ at_front (changes_of first second) room
-    records-there = room_after room by.0
+    records-there = room_after_lem room by.0

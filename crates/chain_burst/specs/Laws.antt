@@ -69,22 +69,22 @@ frame-of size samples (suc n) k h = go (dec_lt k n) (frame-of size samples n k)
 -- ---- records
 
 -- record k of some frames is that of frame k alone
-record_of : (catalogue : List ℕ) (s : Settings) (fs : List (List ℕ)) (room rest : List ℕ) (k : ℕ) → k < length fs
+record_of_lem : (catalogue : List ℕ) (s : Settings) (fs : List (List ℕ)) (room rest : List ℕ) (k : ℕ) → k < length fs
     → take record_size (drop (record_size * k) (records_of catalogue s fs room ++ rest)) ≡ record_bytes (tracked_of (chain.call (get_or fs k []) catalogue s room))
 unfolding records_of
-record_of catalogue s [] room rest k h = absurd (not-suc-le-zero h)
-record_of catalogue s (f ∷ fs) room rest zero h =
+record_of_lem catalogue s [] room rest k h = absurd (not-suc-le-zero h)
+record_of_lem catalogue s (f ∷ fs) room rest zero h =
     let t = tracked_of (chain.call f catalogue s room) in
     ap (take record_size) (append_assoc (record_bytes t) (records_of catalogue s fs room) rest)
     ∙ take_at (record_bytes t) (records_of catalogue s fs room ++ rest) record_size (bytes-length t)
-record_of catalogue s (f ∷ fs) room rest (suc k) h =
+record_of_lem catalogue s (f ∷ fs) room rest (suc k) h =
     let t = tracked_of (chain.call f catalogue s room) in
     let b = record_bytes t in
     let l = records_of catalogue s fs room ++ rest in
     let e : record_size * suc k ≡ length b + record_size * k = omega (arith, bytes-length t) in
     (λ i. take record_size (drop (e i) (append_assoc b (records_of catalogue s fs room) rest i)))
     ∙ ap (take record_size) (drop-append-add b l (record_size * k))
-    ∙ record_of catalogue s fs room rest k (omega arith)
+    ∙ record_of_lem catalogue s fs room rest k (omega arith)
 
 -- a matrix of the chain has entries of 64 bits
 signed : {z : ℤ} → Within 6000000000 z → SFits w64 z
@@ -146,7 +146,7 @@ module _ (c : Call) (h : first_applying (refusals_of c) ≡ outcome.Accepted) wh
     pub record-at : take record_size (drop (record_size * k) (records_after c)) ≡ record_bytes single
     record-at =
         ap (λ (l : List ℕ). take record_size (drop (record_size * k) l)) accepted-records
-        ∙ record_of c.catalogue c.settings (frames c) c.room _ k (omega (arith, frames-length (size_of c) c.samples (frames_in c)))
+        ∙ record_of_lem c.catalogue c.settings (frames c) c.room _ k (omega (arith, frames-length (size_of c) c.samples (frames_in c)))
         ∙ ap (λ (f : List ℕ). record_bytes (tracked_of (chain.call f c.catalogue c.settings c.room)))
         (frame-of (size_of c) c.samples (frames_in c) k inside)
         ∙ ap record_bytes (any-room (frame_at (size_of c) c.samples k) c.catalogue c.settings c.room room (sym long))

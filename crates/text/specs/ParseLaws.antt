@@ -114,10 +114,10 @@ module _ (word : List ℕ) where
 
 -- ---- what it is for
 
-all_digits : (bytes : List ℕ) → ((k : ℕ) → k < length bytes → (48 ≤ get_or bytes k 0) × (get_or bytes k 0 ≤ 57)) → all_digits bytes ≡ true
+all_digits_lem : (bytes : List ℕ) → ((k : ℕ) → k < length bytes → (48 ≤ get_or bytes k 0) × (get_or bytes k 0 ≤ 57)) → all_digits bytes ≡ true
 unfolding all_digits
-all_digits [] h = refl
-all_digits (b ∷ bytes) h = rw (digit-is b (h 0 (omega arith)).0 (h 0 (omega arith)).1, all_digits bytes (λ k l. h (suc k) (omega arith)))
+all_digits_lem [] h = refl
+all_digits_lem (b ∷ bytes) h = rw (digit-is b (h 0 (omega arith)).0 (h 0 (omega arith)).1, all_digits_lem bytes (λ k l. h (suc k) (omega arith)))
 
 -- the decimal of a number that fits reads back as that number
 pub decimal-parsed : (n : ℕ) → n < 18446744073709551616 → parsed_of (decimal n) ≡ Number n
@@ -125,7 +125,7 @@ unfolding parsed_from
 decimal-parsed n h =
     let d = is-decimal n in
     parsed-some (decimal n) d.some
-    ∙ rw (all_digits (decimal n) d.digits, d.value, lt-ltb n 18446744073709551616 h)
+    ∙ rw (all_digits_lem (decimal n) d.digits, d.value, lt-ltb n 18446744073709551616 h)
 
 -- a zero in front changes nothing
 pub zero-in-front : (word : List ℕ) → 0 < length word → parsed_of (48 ∷ word) ≡ parsed_of word

@@ -26,12 +26,12 @@ module _ (s : tie.Start) where
 -- what the tests leave
 module _ (c : tie.In-Accepted) where
   abbrev start : tie.Start
-  start = c.before.before
+  start = c.before
 
   left :
       InRange start.args.v1 start.args.v2 start.args.w1 start.args.w2 ×
       ((2 ^ 30 ≤ largest_of (cross_of start.args.v1 start.args.v2)) × (2 ^ 30 ≤ largest_of (cross_of start.args.w1 start.args.w2)))
-  left = acceptable start.args.v1 start.args.v2 start.args.w1 start.args.w2 c.before.before.tested.ensures c.enum_told-1.given.1
+  left = acceptable start.args.v1 start.args.v2 start.args.w1 start.args.w2 c.before.tested.ensures c.in-Accepted.is
 
 tested-requires : tie.Need-tested-requires
 tested-requires c κs = search rules
@@ -57,9 +57,9 @@ product-requires c κs =
 
 returns : tie.Need-returns-in-Refused
 returns c =
-    let told = c.before.before in
+    let told = c in
     let s = told.before in
-    let refused = c.before.refusal-1.given in
+    let refused = c.in-Refused in
     both s (by-refusal s.args.v1 s.args.v2 s.args.w1 s.args.w2 told.tested.ensures refused.1)
 
 returns-2 : tie.Need-returns-in-Accepted
@@ -70,7 +70,7 @@ returns-2 c =
     let camera = c.before.before.axes_of-camera.ensures in
     let sky = c.before.axes_of-sky.ensures in
     let product = c.product.ensures ∙ (λ i. product_of (camera i) (sky i)) in
-    let found = by-acceptance s.args.v1 s.args.v2 s.args.w1 s.args.w2 o.before.before.tested.ensures o.enum_told-1.given.1 in
+    let found = by-acceptance s.args.v1 s.args.v2 s.args.w1 s.args.w2 o.before.tested.ensures o.in-Accepted.is in
     both s (found ∙ ap (λ (m : Matrix). Found m) (sym product))
 
 pub triad_spec : {M : Type 1} → statement M

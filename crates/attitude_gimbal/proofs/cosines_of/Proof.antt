@@ -25,20 +25,20 @@ enum_told : tie.Need-enum_told-1
 enum_told c = search rules
 
 rows-requires : tie.Need-rows-requires
-rows-requires c κs = acceptable c.before.before.before.args.m c.before.before.tested.ensures c.enum_told-1.given.1
+rows-requires c κs = acceptable c.before.before.args.m c.before.tested.ensures c.in-Accepted.is
 
 returns : tie.Need-returns-in-Refused
 returns c =
-    let told = c.before.before.before in
+    let told = c.before in
     let m = told.before.args.m in
-    both m (by-refusal m told.tested.ensures c.before.refusal-1.given.1)
+    both m (by-refusal m told.tested.ensures c.in-Refused.is)
 
 returns-2 : tie.Need-returns-in-Accepted
 returns-2 c =
     let o = c.before in
-    let told = o.before.before in
+    let told = o.before in
     let m = told.before.args.m in
-    both m (by-acceptance m told.tested.ensures o.enum_told-1.given.1 ∙ ap (λ (r : Cosines). Rows r) (sym c.rows.ensures))
+    both m (by-acceptance m told.tested.ensures o.in-Accepted.is ∙ ap (λ (r : Cosines). Rows r) (sym c.rows.ensures))
 
 pub cosines_of_spec : {M : Type 1} → statement M
 cosines_of_spec =

@@ -52,12 +52,12 @@ loop-again : tie.Need-loop-i-preserved invariant-loop decreases-loop
 loop-again c =
     let l = c.before.before.loop-i in
     let s = c.before.before.before.before in
-    let e = kept w64 {r = get_or s.args.t2 l.i (pos 0)} c.out-1.given refl in (
+    let e = kept w64 {r = get_or s.args.flat l.i (pos 0)} c.out-1.given refl in (
       search rules,
       l.invariant.1,
       l.invariant.2,
       simp length-set l.invariant.3,
-      rw (e, l.invariant.4) (copied (pos 0) s.args.t2 s.args.out.now l.i (search rules) (search rules)),
+      rw (e, l.invariant.4) (copied (pos 0) s.args.flat s.args.out.now l.i (search rules) (search rules)),
     )
 
 same_length : tie.Need-shape_of-out invariant-loop decreases-loop
@@ -68,7 +68,7 @@ unfolding handed_over
 returns-2 c =
     let v = c.before.loop-i.invariant in
     let e : c.before.loop-i.i ≡ 64 = omega arith in
-    v.4 ∙ rw (e, take_all 64 c.before.before.before.args.t2 (omega arith), le-ltb _ _ v.1) refl
+    v.4 ∙ rw (e, take_all 64 c.before.before.before.args.flat (omega arith), le-ltb _ _ v.1) refl
 
 pub hand_over_spec : {M : Type 1} → statement M
 hand_over_spec =

@@ -18,10 +18,10 @@ of-count-requires : tie.Need-of_count-requires
 of-count-requires c κs = search rules
 
 returns : tie.Need-returns-in-Refused
-returns c = c.of_refusal.ensures ∙ ap counted_numbers (sym c.before.before.counted-1.given.1)
+returns c = c.of_refusal.ensures ∙ ap counted_numbers (sym c.before.in-Refused.is)
 
 returns-2 : tie.Need-returns-in-Count
-returns-2 c = c.of_count.ensures ∙ ap counted_numbers (sym c.before.before.counted-in-Count-1.given.1)
+returns-2 c = c.of_count.ensures ∙ ap counted_numbers (sym c.before.in-Count.is)
 
 pub of_counted_spec : {M : Type 1} → statement M
 of_counted_spec =

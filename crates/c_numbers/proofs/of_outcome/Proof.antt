@@ -20,8 +20,8 @@ returns c = search rules
 
 returns-2 : tie.Need-returns-in-Refused
 returns-2 c =
-    let o = c.before.before in
-    c.of_refusal.ensures ∙ ap (λ (x : Outcome). outcome_numbers x o.before.before.args.accepted) (sym o.outcome-1.given.1)
+    let o = c.before in
+    c.of_refusal.ensures ∙ ap (λ (x : Outcome). outcome_numbers x o.before.args.accepted) (sym o.in-Refused.is)
 
 pub of_outcome_spec : {M : Type 1} → statement M
 of_outcome_spec =

@@ -53,8 +53,8 @@ loop-again c =
     let l = c.before.before.before.loop-k in
     let a = c.before.before.before.before.args in (
       search rules,
-      c.put_star-next.ensures ∙ ap (λ (xs : List ℤ). with_star xs (6 + 3 * l.k) (get_or a.t2 l.k nought)) l.invariant.1
-          ∙ sym (stars-next a.t2 l.k a.flat),
+      c.put_star-next.ensures ∙ ap (λ (xs : List ℤ). with_star xs (6 + 3 * l.k) (get_or a.stars l.k nought)) l.invariant.1
+          ∙ sym (stars-next a.stars l.k a.flat),
     )
 
 returns : tie.Need-returns invariant-loop decreases-loop
@@ -62,7 +62,7 @@ returns c =
     let l = c.before.loop-k in
     let a = c.before.before.args in
     let e : l.k ≡ 8 = omega arith in
-    l.invariant.1 ∙ ap (λ (n : ℕ). with_stars a.t2 n a.flat) e
+    l.invariant.1 ∙ ap (λ (n : ℕ). with_stars a.stars n a.flat) e
 
 pub put_stars_spec : {M : Type 1} → statement M
 put_stars_spec =

@@ -14,7 +14,7 @@ use Rattle.refusal.specs.declared.Counted.TheVariants.{Count}
 use Rattle.catalogue_compare.specs.Changes.{listed, changes_of}
 use Rattle.words.specs.Front.{at_front}
 use Rattle.catalogue_compare.specs.Compare.{catalogues_refused, refusals_of, compared_of, room_after, answer_for}
-use Rattle.catalogue_compare.specs.CompareSteps.{both-valid, compared, answers, refused, too_short, long-enough, room_after}
+use Rattle.catalogue_compare.specs.CompareSteps.{both-valid, compared, answers, refused, too_short, long-enough, room_after_lem}
 use borrow.Author.Rules.{rules}
 use Rattle.catalogue_compare.proofs.compare.Statement.{statement}
 use Rattle.catalogue_compare.proofs.compare.Tie as tie
@@ -25,13 +25,13 @@ settled : (first second room : List ℕ) {o : Outcome} {r : Counted} {after : Li
     → (r ≡ compared_of first second (length room)) × ((after ≡ room_after first second room) × (count_answer r ≡ answer_for first second (length room)))
 settled first second room e a b =
     let p = in-terms count_answer (a ∙ sym (compared first second (length room) e)) (answers first second (length room)) in
-    (p.0, (b ∙ sym (room_after first second room e), p.1))
+    (p.0, (b ∙ sym (room_after_lem first second room e), p.1))
 
 abbrev start : tie.In_default → tie.Start
-start c = c.before.before.before.before.before.before
+start c = c.before.before.before.before.before
 
 accepted : (c : tie.In_default) → first_applying (catalogues_refused (start c).args.first.now (start c).args.second.now) ≡ Accepted
-accepted c = sym c.before.before.judge-outcome.ensures ∙ c.enum_told-1.given.1
+accepted c = sym c.before.judge-outcome.ensures ∙ c.in_default.is
 
 judge-requires : tie.Need-judge-outcome-requires
 judge-requires c κs = search rules
@@ -41,9 +41,9 @@ enum-known-outcome c = search rules
 
 returns : tie.Need-returns-in-Refused
 returns c =
-    let x = c.before.before.before.before.before.before.before.args in
-    settled x.first.now x.second.now x.room.now (refused _ _ (length x.room.now) _ (sym c.before.before.before.judge-outcome.ensures
-    ∙ c.before.outcome-1.given.1)) refl refl
+    let x = c.before.before.before.before.before.args in
+    settled x.first.now x.second.now x.room.now (refused _ _ (length x.room.now) _ (sym c.before.judge-outcome.ensures
+    ∙ c.in-Refused.is)) refl refl
 
 enum_told : tie.Need-enum_told-1
 enum_told c = search rules

@@ -7,8 +7,8 @@ use borrow.Author.Rules.{rules}
 use Rattle.catalogue_compare.proofs.judge.Statement.{statement}
 use Rattle.catalogue_compare.proofs.judge.Tie as tie
 
-valid : (c : tie.In_default) → Valid c.before.before.before.before.before.args.first.now
-valid c = (checked-valid _ _ (sym c.before.before.check-checked.ensures.0 ∙ c.enum_told-1.given.1)).0
+valid : (c : tie.In_default) → Valid c.before.before.before.before.args.first.now
+valid c = (checked-valid _ _ (sym c.before.check-checked.ensures.0 ∙ c.in_default.is)).0
 
 check-requires : tie.Need-check-checked-requires
 check-requires c κs = search rules
@@ -18,9 +18,9 @@ enum-known-checked c = search rules
 
 returns : tie.Need-returns-in-Refused
 returns c =
-    let x = c.before.before.before.before.before.before.args in
-    sym (first-refused x.first.now x.second.now _ (checked_refused _ _ (sym c.before.before.before.check-checked.ensures.0
-    ∙ c.before.checked-1.given.1)))
+    let x = c.before.before.before.before.args in
+    sym (first-refused x.first.now x.second.now _ (checked_refused _ _ (sym c.before.check-checked.ensures.0
+    ∙ c.in-Refused.is)))
 
 enum_told : tie.Need-enum_told-1
 enum_told c = search rules
@@ -34,9 +34,9 @@ enum-known-other c = search rules
 returns-2 : tie.Need-returns-in-Refused-other
 returns-2 c =
     let t : tie.In_default = search rules in
-    let x = t.before.before.before.before.before.args in
-    sym (then-second x.first.now x.second.now (valid t) (checked_refused _ _ (sym c.before.before.before.check-other.ensures.0
-    ∙ c.before.other-1.given.1)))
+    let x = t.before.before.before.before.args in
+    sym (then-second x.first.now x.second.now (valid t) (checked_refused _ _ (sym c.before.check-other.ensures.0
+    ∙ c.in-Refused-other.is)))
 
 enum-told-2 : tie.Need-enum_told-in_default-other
 enum-told-2 c = search rules
@@ -44,9 +44,9 @@ enum-told-2 c = search rules
 returns-3 : tie.Need-returns
 returns-3 c =
     let t : tie.In_default = search rules in
-    let x = t.before.before.before.before.before.args in
+    let x = t.before.before.before.before.args in
     sym (then-second x.first.now x.second.now (valid t) (valid-accepted _
-    (checked-valid _ _ (sym c.before.before.check-other.ensures.0 ∙ c.enum_told-in_default-other-1.given.1)).0))
+    (checked-valid _ _ (sym c.before.check-other.ensures.0 ∙ c.in_default-other.is)).0))
 
 pub judge_spec : {M : Type 1} → statement M
 judge_spec =

@@ -17,7 +17,7 @@ use Rattle.catalogue_cut.proofs.cut.Statement.{statement}
 use Rattle.catalogue_cut.proofs.cut.Tie as tie
 
 valid : (c : tie.In_default) → Valid c.before.before.before.before.before.args.bytes.now
-valid c = (checked-valid _ _ (sym c.before.before.check-checked.ensures.0 ∙ c.enum_told-1.given.1)).0
+valid c = (checked-valid _ _ (sym c.before.check-checked.ensures.0 ∙ c.in_default.is)).0
 
 -- the answer in the documents' terms follows from what is given
 promised : (bytes : List ℕ) (limit closeness : ℤ) {r : Counted} {after : List ℕ} → r ≡ shortened_of bytes limit closeness
@@ -36,9 +36,9 @@ same_length c = search rules
 
 returns : tie.Need-returns-in-Refused
 returns c =
-    let k = c.before.before.before in
+    let k = c.before in
     let x = k.before.before.before.args in
-    let e = checked_refused _ _ (sym k.check-checked.ensures.0 ∙ c.before.checked-1.given.1) in
+    let e = checked_refused _ _ (sym k.check-checked.ensures.0 ∙ c.in-Refused.is) in
     promised x.bytes.now x.limit x.closeness (sym (catalogue-refused x.bytes.now x.limit x.closeness _ e))
     (sym (catalogue-kept x.bytes.now x.limit x.closeness _ e))
 

@@ -26,17 +26,17 @@ enum-known-checked-2 c = search rules
 
 -- the entry, from the place at which the catalogue is known to be valid
 abbrev start : tie.In-Count → tie.Start
-start c = c.before.before.before.before.before.before
+start c = c.before.before.before.before
 
 -- so many records: those of a valid catalogue
-valid : (c : tie.In-Count) → Valid (start c).args.catalogue.now × (c.before.checked-in-Count-1.given.0.0 ≡ records_in (start c).args.catalogue.now)
-valid c = checked-valid _ _ (sym c.before.before.before.check-checked.ensures.0 ∙ c.before.checked-in-Count-1.given.1)
+valid : (c : tie.In-Count) → Valid (start c).args.catalogue.now × (c.in-Count.field-0 ≡ records_in (start c).args.catalogue.now)
+valid c = checked-valid _ _ (sym c.before.check-checked.ensures.0 ∙ c.in-Count.is)
 
 -- the slice that is handed on
-fits : (c : tie.After-stars-numbers) → 3 * c.before.before.checked-in-Count-1.given.0.0 ≤ length c.stars-numbers.result
+fits : (c : tie.After-stars-numbers) → 3 * c.before.in-Count.field-0 ≤ length c.stars-numbers.result
 fits c = lent-within _ _ _ c.stars-numbers.ensures (valid c.before).1 (valid c.before).0
 
-lent : (c : tie.After-stars-numbers) → take (3 * c.before.before.checked-in-Count-1.given.0.0) c.stars-numbers.result ≡ stars_of (start c.before).args.catalogue.now
+lent : (c : tie.After-stars-numbers) → take (3 * c.before.in-Count.field-0) c.stars-numbers.result ≡ stars_of (start c.before).args.catalogue.now
 lent c = lent-stars _ _ _ c.stars-numbers.ensures (valid c.before).1 (valid c.before).0
 
 stars-requires : tie.Need-stars-numbers-requires
@@ -62,8 +62,8 @@ promised bytes floor before e f = let p = in-terms count_answer e (answers bytes
 
 returns : tie.Need-returns-in-Refused
 returns c =
-    let x = c.before.before.before.before.before.before.args in
-    let e = checked_refused _ _ (sym c.before.before.before.check-checked.ensures.0 ∙ c.before.checked-1.given.1) in
+    let x = c.before.before.before.before.args in
+    let e = checked_refused _ _ (sym c.before.check-checked.ensures.0 ∙ c.in-Refused.is) in
     promised x.catalogue.now x.floor x.room.now (sym (catalogue-refused x.catalogue.now x.floor _ e (length x.room.now)))
     (sym (catalogue-kept x.catalogue.now x.floor _ e x.room.now))
 

@@ -94,7 +94,7 @@ identified-requires : tie.Need-identified-requires
 identified-requires c κs =
     let k : tie.After-ranked-sighting = search rules in
     let t : tie.In-Accepted = search rules in
-    ranking-stands (whole k) k.ranked-sighting.result k.ranked-sighting.ensures.0 t.enum_told-1.given.1 _ k.ranked-sighting.ensures.1
+    ranking-stands (whole k) k.ranked-sighting.result k.ranked-sighting.ensures.0 t.in-Accepted.is _ k.ranked-sighting.ensures.1
 
 same_length : tie.Need-shape_of-room-in-Refused
 same_length c = search rules
@@ -104,8 +104,8 @@ returns c =
     let k : tie.After-ranked-sighting = search rules in
     let o : tie.In-Refused-2 = search rules in
     let w : tie.After-refused = search rules in
-    let q = o.outcome-1.given.0.0 in
-    let e = outcome-is k o.outcome-1.given.1 in
+    let q = o.in-Refused.field-0 in
+    let e = outcome-is k o.in-Refused.is in
     (w.refused.ensures ∙ sym (refused-tracked (whole k) q e), (k.ranked-sighting.ensures.1, nothing-named (whole k) q w.refused.result e w.refused.ensures))
 
 same-length-2 : tie.Need-shape_of-room-in-Accepted
@@ -118,7 +118,7 @@ returns-2 c =
     let i : tie.After-identified = search rules in
     let w = whole k in
     let e = i.identified.ensures in (
-      e.0 ∙ ap (λ (r : Report). located_of r w.catalogue w.settings) (report-is k) ∙ sym (accepted-tracked w (outcome-is k t.enum_told-1.given.1)),
+      e.0 ∙ ap (λ (r : Report). located_of r w.catalogue w.settings) (report-is k) ∙ sym (accepted-tracked w (outcome-is k t.in-Accepted.is)),
       (k.ranked-sighting.ensures.1, subst (λ (r : Report). Names r w.catalogue w.settings i.identified.result) (report-is k) e.1),
     )
 

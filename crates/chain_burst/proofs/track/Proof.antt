@@ -22,10 +22,10 @@ abbrev whole : tie.After-outcome → Call
 whole o = let a = (start o).args in call a.samples.now a.catalogue.now a.settings a.room.now a.records.now
 
 abbrev tested : tie.In-Accepted → tie.After-outcome
-tested c = c.before.before
+tested c = c.before
 
 accepted : (c : tie.In-Accepted) → first_applying (refusals_of (whole (tested c))) ≡ Accepted
-accepted c = sym (tested c).outcome.ensures ∙ c.enum_told-1.given.1
+accepted c = sym (tested c).outcome.ensures ∙ c.in-Accepted.is
 
 -- ---- the needs
 
@@ -49,11 +49,11 @@ track-frames-requires c κs = accepted-whole _ _ _ _ (accepted c.before.before)
 
 returns : tie.Need-returns-in-Refused
 returns c =
-    let k = c.before in
-    let o = k.before.before in
+    let k = c in
+    let o = k.before in
     let w = whole o in
-    let e = sym o.outcome.ensures ∙ k.r-1.given.1 in
-    let q = k.r-1.given.0.0 in
+    let e = sym o.outcome.ensures ∙ k.in-Refused.is in
+    let q = k.in-Refused.field-0 in
     let p = in-terms count_answer (sym (refused-answer w q e)) (answers w) in
     (p.0, (p.1, (sym (refused-records w q e), sym (refused-room w q e))))
 

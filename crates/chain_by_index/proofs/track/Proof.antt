@@ -71,7 +71,7 @@ located-requires c κs =
     let o : tie.In-Accepted = search rules in
     let w = whole t in
     let s = start t in
-    let h = outcome-is t o.enum_told-1.given.1 in (
+    let h = outcome-is t o.in-Accepted.is in (
       subst (λ (r : Report). Ready r w.chain.catalogue w.chain.settings w.chain.room) (sym (report-is t)) (ready w.chain (accepted-plain w h)),
       (
         ap (λ (x : Sighting). x.directions) t.take_sights-sighting.ensures ∙ ap (λ (r : Report). padded_sights r w.chain.settings) (sym (report-is t)),
@@ -83,8 +83,8 @@ returns : tie.Need-returns-in-Refused
 returns c =
     let t : tie.After-take_sights-sighting = search rules in
     let o : tie.In-Refused-2 = search rules in
-    let e = outcome-is t o.outcome-1.given.1 in
-    let q = o.outcome-1.given.0.0 in
+    let e = outcome-is t o.in-Refused.is in
+    let q = o.in-Refused.field-0 in
     (c.refused.ensures ∙ sym (refused-tracked (whole t) q e), sym (refused-room (whole t) q e))
 
 same_length : tie.Need-shape_of-room
@@ -96,7 +96,7 @@ returns-2 c =
     let t : tie.After-take_sights-sighting = search rules in
     let o : tie.In-Accepted = search rules in
     let w = whole t in
-    let h = outcome-is t o.enum_told-1.given.1 in
+    let h = outcome-is t o.in-Accepted.is in
     let e = l.located.ensures in (
       e.0 ∙ ap (λ (r : Report). located_of r w.chain.catalogue w.chain.settings) (report-is t) ∙ sym (accepted-tracked w h),
       e.1 ∙ ap (λ (r : Report). ranked_room r w.chain.catalogue w.chain.settings w.chain.room) (report-is t) ∙ sym (accepted-room w h),

@@ -30,20 +30,20 @@ enum_told c = search rules
 
 verdict-at-requires : tie.Need-verdict_at-judged-requires
 verdict-at-requires c κs =
-    let a = c.before.before.before.before.args in
-    let v = accepted-pixel a.samples.now a.width a.height a.threshold a.row a.column (sym c.before.before.pixel_outcome-outcome.ensures.0
-    ∙ c.enum_told-1.given.1) in
+    let a = c.before.before.before.args in
+    let v = accepted-pixel a.samples.now a.width a.height a.threshold a.row a.column (sym c.before.pixel_outcome-outcome.ensures.0
+    ∙ c.in-Accepted.is) in
     (v.0.whole, v.1, v.2, v.0.high.1, v.0.wide.1)
 
 returns : tie.Need-returns-in-Refused
 unfolding judgement_of
-returns c = both c.before.before.before.before.before (rw (sym c.before.before.before.pixel_outcome-outcome.ensures.0 ∙ c.before.outcome-1.given.1))
+returns c = both c.before.before.before (rw (sym c.before.pixel_outcome-outcome.ensures.0 ∙ c.in-Refused.is))
 
 returns-2 : tie.Need-returns-in-Accepted
 unfolding judgement_of
 returns-2 c =
-    both c.before.before.before.before.before
-    (rw (sym c.before.before.before.pixel_outcome-outcome.ensures.0 ∙ c.before.enum_told-1.given.1, c.verdict_at-judged.ensures))
+    both c.before.before.before.before
+    (rw (sym c.before.before.pixel_outcome-outcome.ensures.0 ∙ c.before.in-Accepted.is, c.verdict_at-judged.ensures))
 
 pub judge_spec : {M : Type 1} → statement M
 judge_spec =

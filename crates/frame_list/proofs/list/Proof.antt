@@ -20,23 +20,23 @@ enum-told-2 c = search rules
 
 report-of-requires : tie.Need-report_of-requires
 report-of-requires c κs =
-    let a = c.before.before.before.before.args in
-    let v = accepted-valid a.samples.now a.width a.height a.threshold (sym c.before.before.frame_outcome-outcome.ensures.0
-    ∙ c.enum_told-in-Accepted-1.given.1) in
+    let a = c.before.before.before.args in
+    let v = accepted-valid a.samples.now a.width a.height a.threshold (sym c.before.frame_outcome-outcome.ensures.0
+    ∙ c.in-Accepted.is) in
     (v.whole, v.high.1, v.wide.1)
 
 returns : tie.Need-returns-in-Refused
 unfolding listing_of
 returns c =
-    let o = c.before.before.before.frame_outcome-outcome in
-    let g = c.before.enum_told-1.given.1 in
+    let o = c.before.before.frame_outcome-outcome in
+    let g = c.before.in-Refused.is in
     rw (c.none.ensures, g, sym o.ensures.0 ∙ g)
 
 returns-2 : tie.Need-returns-in-Accepted
 unfolding listing_of
 returns-2 c =
-    let o = c.before.before.before.frame_outcome-outcome in
-    let g = c.before.enum_told-in-Accepted-1.given.1 in
+    let o = c.before.before.frame_outcome-outcome in
+    let g = c.before.in-Accepted.is in
     rw (c.report_of.ensures, g, sym o.ensures.0 ∙ g)
 
 pub list_spec : {M : Type 1} → statement M

@@ -18,24 +18,24 @@ enum_told c = search rules
 
 reason-at-requires : tie.Need-reason_at-reason-requires
 reason-at-requires c κs =
-    let a = c.before.before.before.before.args in
-    let v = accepted-pixel a.samples.now a.width a.height a.threshold a.row a.column (sym c.before.before.pixel_outcome-outcome.ensures.0
-    ∙ c.enum_told-1.given.1) in
+    let a = c.before.before.before.args in
+    let v = accepted-pixel a.samples.now a.width a.height a.threshold a.row a.column (sym c.before.pixel_outcome-outcome.ensures.0
+    ∙ c.in-Accepted.is) in
     (v.0.whole, v.1, v.2, v.0.high.1, v.0.wide.1)
 
 returns : tie.Need-returns-in-Refused
 unfolding explanation_of
 returns c =
-    let a = c.before.before.before.before.before.args in
+    let a = c.before.before.before.args in
     told a.samples.now a.width a.height a.threshold a.row a.column
-    (rw (sym c.before.before.before.pixel_outcome-outcome.ensures.0 ∙ c.before.outcome-1.given.1))
+    (rw (sym c.before.pixel_outcome-outcome.ensures.0 ∙ c.in-Refused.is))
 
 returns-2 : tie.Need-returns-in-Accepted
 unfolding explanation_of
 returns-2 c =
-    let a = c.before.before.before.before.before.args in
+    let a = c.before.before.before.before.args in
     told a.samples.now a.width a.height a.threshold a.row a.column
-    (rw (sym c.before.before.before.pixel_outcome-outcome.ensures.0 ∙ c.before.enum_told-1.given.1, c.reason_at-reason.ensures))
+    (rw (sym c.before.before.pixel_outcome-outcome.ensures.0 ∙ c.before.in-Accepted.is, c.reason_at-reason.ensures))
 
 pub explain_spec : {M : Type 1} → statement M
 explain_spec =

@@ -33,7 +33,7 @@ returns-4 : tie.Need-returns-in-Lone
 returns-4 c = search rules
 
 returns-5 : tie.Need-returns-in-Measured
-returns-5 c = ap kind_in (sym c.before.reason-1.given.1)
+returns-5 c = ap kind_in (sym c.in-Measured.is)
 
 pub kind_of_spec : {M : Type 1} → statement M
 kind_of_spec =

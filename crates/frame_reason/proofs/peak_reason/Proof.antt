@@ -74,7 +74,7 @@ enum_told c = search rules
 largest-beside-requires : tie.Need-largest_beside-requires
 largest-beside-requires c κs =
     let p : tie.After-peak_kind-kind = search rules in
-    let t = peak-lone _ _ _ _ _ _ (sym p.peak_kind-kind.ensures ∙ c.enum_told-1.given.1) in
+    let t = peak-lone _ _ _ _ _ _ (sym p.peak_kind-kind.ensures ∙ c.in-Lone.is) in
     let m = amid _ _ _ _ (inside _ _ _ _ t.0) in
     search rules
 
@@ -83,17 +83,17 @@ first-side-requires c κs = search rules
 
 returns : tie.Need-returns-in-Measured
 returns c =
-    let p = c.before.before.before in
+    let p = c.before in
     let a = p.before.before.args in
     measured-is _ _ (peak-kind-is a.samples.now a.width a.height a.threshold a.row a.column ∙ sym p.peak_kind-kind.ensures
-    ∙ c.before.kind-1.given.1)
+    ∙ c.in-Measured.is)
 
 returns-2 : tie.Need-returns-in-Lone
 returns-2 c =
     let p : tie.After-peak_kind-kind = search rules in
     let a = p.before.before.args in
     ap Lone c.largest_beside.ensures
-    ∙ lone_is a.samples.now a.width a.height a.threshold a.row a.column (sym p.peak_kind-kind.ensures ∙ c.before.enum_told-1.given.1)
+    ∙ lone_is a.samples.now a.width a.height a.threshold a.row a.column (sym p.peak_kind-kind.ensures ∙ c.before.in-Lone.is)
 
 returns-3 : tie.Need-returns-in_default
 returns-3 c =

@@ -28,23 +28,23 @@ enum_told c = search rules
 
 peak-reason-requires : tie.Need-peak_reason-requires
 peak-reason-requires c κs =
-    let b = c.before.before in
-    let u = nothing-unbeaten _ _ _ _ _ (sym b.first_beating-beating.ensures ∙ c.enum_told-1.given.1) in
+    let b = c.before in
+    let u = nothing-unbeaten _ _ _ _ _ (sym b.first_beating-beating.ensures ∙ c.in-Nothing.is) in
     search rules
 
 returns-2 : tie.Need-returns-in-At
 unfolding reason_of
 returns-2 c =
-    let b = c.before.before.before in
+    let b = c.before in
     let e = b.before in
-    rw (← e.before.sample-sample.ensures, le-ltb _ _ e.if-sample-threshold.false, sym b.first_beating-beating.ensures ∙ c.before.beating-1.given.1)
+    rw (← e.before.sample-sample.ensures, le-ltb _ _ e.if-sample-threshold.false, sym b.first_beating-beating.ensures ∙ c.in-At.is)
 
 returns-3 : tie.Need-returns-in-Nothing
 unfolding reason_of
 returns-3 c =
-    let b = c.before.before.before in
+    let b = c.before.before in
     let e = b.before in
-    rw (← e.before.sample-sample.ensures, le-ltb _ _ e.if-sample-threshold.false, sym b.first_beating-beating.ensures ∙ c.before.enum_told-1.given.1) c.peak_reason.ensures
+    rw (← e.before.sample-sample.ensures, le-ltb _ _ e.if-sample-threshold.false, sym b.first_beating-beating.ensures ∙ c.before.in-Nothing.is) c.peak_reason.ensures
 
 pub reason_at_spec : {M : Type 1} → statement M
 reason_at_spec =

@@ -33,19 +33,19 @@ enum-known-reason-5 : tie.Need-enum_known-reason-in-Measured-1
 enum-known-reason-5 c = search rules
 
 returns : tie.Need-returns-in-Dark
-returns c = ap values_in (sym c.before.reason-1.given.1)
+returns c = ap values_in (sym c.in-Dark.is)
 
 returns-2 : tie.Need-returns-in-Beaten
-returns-2 c = ap values_in (sym c.before.reason-in-Beaten-1.given.1)
+returns-2 c = ap values_in (sym c.in-Beaten.is)
 
 returns-3 : tie.Need-returns-in-Edge
-returns-3 c = (λ i. three (c.side_number.ensures i) 0 0) ∙ ap values_in (sym c.before.before.reason-in-Edge-1.given.1)
+returns-3 c = (λ i. three (c.side_number.ensures i) 0 0) ∙ ap values_in (sym c.before.in-Edge.is)
 
 returns-4 : tie.Need-returns-in-Lone
-returns-4 c = ap values_in (sym c.before.reason-in-Lone-1.given.1)
+returns-4 c = ap values_in (sym c.in-Lone.is)
 
 returns-5 : tie.Need-returns-in-Measured
-returns-5 c = ap values_in (sym c.before.reason-in-Measured-1.given.1)
+returns-5 c = ap values_in (sym c.in-Measured.is)
 
 pub values_of_spec : {M : Type 1} → statement M
 values_of_spec =

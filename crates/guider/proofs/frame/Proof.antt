@@ -51,23 +51,23 @@ enum-told-2 c = search rules
 
 followed-requires : tie.Need-followed-requires
 followed-requires c κs =
-    let t = c.before.before.before.guider_ok in
-    sym t.ensures ∙ not-false t.result c.before.before.if-not-guider_ok.false
+    let t = c.before.before.guider_ok in
+    sym t.ensures ∙ not-false t.result c.before.if-not-guider_ok.false
 
 returns-2 : tie.Need-returns-in-Refused
 returns-2 c =
-    let t = c.before.before.before.guider_ok in
-    let a = c.before.before.before.before.args in
+    let t = c.before.before.guider_ok in
+    let a = c.before.before.before.args in
     both a.guider a.listing
-    (no-frame a.guider a.listing (sym t.ensures ∙ not-false t.result c.before.before.if-not-guider_ok.false) c.enum_told-1.given.1)
+    (no-frame a.guider a.listing (sym t.ensures ∙ not-false t.result c.before.if-not-guider_ok.false) c.in-Refused.is)
 
 returns-3 : tie.Need-returns-in-Accepted
 returns-3 c =
-    let t = c.before.before.before.before.guider_ok in
-    let a = c.before.before.before.before.before.args in
+    let t = c.before.before.before.guider_ok in
+    let a = c.before.before.before.before.args in
     both a.guider a.listing
     (c.followed.ensures
-    ∙ seen a.guider a.listing (sym t.ensures ∙ not-false t.result c.before.before.before.if-not-guider_ok.false) c.before.enum_told-in-Accepted-1.given.1)
+    ∙ seen a.guider a.listing (sym t.ensures ∙ not-false t.result c.before.before.if-not-guider_ok.false) c.before.in-Accepted.is)
 
 pub frame_spec : {M : Type 1} → statement M
 frame_spec =

@@ -59,9 +59,9 @@ slice-aggregate-refused c = search rules
 
 refused-requires : tie.Need-refused-requires
 refused-requires c κs =
-    let o = c.before.before.before in
-    let t = o.before.before.before.before.before.before in
-    record { outcome = outcome-is t o.outcome-1.given.1; left = t.track-tracked.ensures.1.0 }
+    let o = c.before.before in
+    let t = o.before.before.before.before.before in
+    record { outcome = outcome-is t o.in-Refused.is; left = t.track-tracked.ensures.1.0 }
 
 enum_told : tie.Need-enum_told-1
 enum_told c = search rules
@@ -78,10 +78,10 @@ same_length c = search rules
 returns : tie.Need-returns-in-Refused
 returns c =
     let w = c.before.before in
-    let o = w.before.before.before.before in
-    let t = o.before.before.before.before.before.before in (
+    let o = w.before.before.before in
+    let t = o.before.before.before.before.before in (
       subst (λ (x : List ℕ). Wrote (start t).args.room.now 0 x w.refused.new.1.1.1.1.1.0 w.refused.result)
-          (sym (refused-answer (chain t) o.outcome-1.given.0.0 (outcome-is t o.outcome-1.given.1))) w.refused.ensures.0,
+          (sym (refused-answer (chain t) o.in-Refused.field-0 (outcome-is t o.in-Refused.is))) w.refused.ensures.0,
       omega (arith, w.refused.ensures.1),
     )
 
@@ -93,10 +93,10 @@ returns-2 c =
     let w2 = c.before.before in
     let w1 = w2.before.before.before.before in
     let e = w1.before.before in
-    let t = e.before.before.before.before.before.before in
+    let t = e.before.before.before.before.before in
     let catalogue = (start t).args.catalogue.now in (
       subst (λ (x : List ℕ). Wrote (start t).args.room.now 0 x w2.matrix.new.0 w2.matrix.result) (ap (accepted_text catalogue) (tracked-is t)
-          ∙ sym (accepted-answer (chain t) (outcome-is t e.enum_told-1.given.1)))
+          ∙ sym (accepted-answer (chain t) (outcome-is t e.in-Accepted.is)))
           (joined catalogue t.track-tracked.result w1.report-next.ensures.0 w2.matrix.ensures.0),
       omega (arith, w1.report-next.ensures.1, w2.matrix.ensures.1),
     )

@@ -35,7 +35,7 @@ returns c =
     let w = c.before.before in
     let t : tie.In-Listing = search rules in
     let s : tie.Start = search rules in
-    told (chain_on s.args.samples.now s.args.catalogue.now s.args.settings) t.enum_told-1.given.1 w.answer.ensures
+    told (chain_on s.args.samples.now s.args.catalogue.now s.args.settings) t.in-Listing.is w.answer.ensures
 
 same-length-2 : tie.Need-shape_of-room-in-Rival
 same-length-2 c = search rules
@@ -45,7 +45,7 @@ returns-2 c =
     let w = c.before.before in
     let t : tie.In-Rival = search rules in
     let s : tie.Start = search rules in
-    told (chain_on s.args.samples.now s.args.catalogue.now s.args.settings) t.enum_told-in-Rival-1.given.1 w.rivals.ensures
+    told (chain_on s.args.samples.now s.args.catalogue.now s.args.settings) t.in-Rival.is w.rivals.ensures
 
 pub lines_of_spec : {M : Type 1} → statement M
 lines_of_spec =

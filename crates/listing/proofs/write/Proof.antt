@@ -61,11 +61,11 @@ same_length c = search rules
 returns-2 : tie.Need-returns-in-Refused
 returns-2 c =
     let w = c.before.before in
-    let k = w.before.before.before in
-    let e = k.before.before.before in
+    let k = w.before.before in
+    let e = k.before.before in
     let a = (start e).args in
-    let t = refused-text a.asked a.settings.now a.frame.now a.catalogue.now k.r-1.given.0.0
-    (sym k.before.before.read_settings.ensures.0 ∙ k.r-1.given.1) in
+    let t = refused-text a.asked a.settings.now a.frame.now a.catalogue.now k.in-Refused.field-0
+    (sym k.before.read_settings.ensures.0 ∙ k.in-Refused.is) in
     room-told 2048 _ _ _ _ _ _ e.if-room-lt-ROOM.false (omega (arith, w.refused.ensures.1, (most a.asked).0)) (most a.asked).1 t w.refused.ensures.0
 
 same-length-2 : tie.Need-shape_of-room-in-Read
@@ -74,11 +74,11 @@ same-length-2 c = search rules
 returns-3 : tie.Need-returns-in-Read
 returns-3 c =
     let w = c.before.before in
-    let k = w.before.before.before in
-    let e = k.before.before.before in
+    let k = w.before.before in
+    let e = k.before.before in
     let a = (start e).args in
-    let t = read-text a.asked a.settings.now a.frame.now a.catalogue.now k.s-1.given.0.0 (sym k.before.before.read_settings.ensures.0
-    ∙ k.s-1.given.1) in
+    let t = read-text a.asked a.settings.now a.frame.now a.catalogue.now k.in-Read.field-0 (sym k.before.read_settings.ensures.0
+    ∙ k.in-Read.is) in
     room-told 2048 _ _ _ _ _ _ e.if-room-lt-ROOM.false w.listed.ensures.1 (most a.asked).1 t w.listed.ensures.0
 
 pub write_spec : {M : Type 1} → statement M

@@ -23,11 +23,11 @@ use Rattle.ranking.proofs.rank.Statement.{statement}
 use Rattle.ranking.proofs.rank.Tie as tie
 
 abbrev start : tie.In-Accepted → tie.Start
-start c = c.before.before.before.before.before
+start c = c.before.before.before.before
 
 accepted : (c : tie.In-Accepted) → let a = (start c).args in rank_outcome_of a.directions.now a.catalogue.now a.tolerance a.room.now ≡ Accepted
 unfolding rank_outcome_of
-accepted c = sym c.before.before.first_refusal-outcome.ensures ∙ c.enum_told-1.given.1
+accepted c = sym c.before.first_refusal-outcome.ensures ∙ c.in-Accepted.is
 
 sound : (c : tie.In-Accepted) → let a = (start c).args in Sound a.directions.now a.catalogue.now a.tolerance (length a.room.now)
 unfolding rank_outcome_of
@@ -88,9 +88,9 @@ write-ranking-requires c κs =
 returns : tie.Need-returns-in-Refused
 unfolding rank_outcome_of
 returns c =
-    let s = c.before.before.before.before.before.before in
+    let s = c.before.before.before.before in
     let a = s.args in
-    let e = sym c.before.before.before.first_refusal-outcome.ensures ∙ c.before.outcome-1.given.1 in
+    let e = sym c.before.first_refusal-outcome.ensures ∙ c.in-Refused.is in
     (sym e, (sym (room-kept a.directions.now a.catalogue.now a.tolerance a.room.now _ e), answer-is s (sym e)))
 
 same_length : tie.Need-shape_of-room

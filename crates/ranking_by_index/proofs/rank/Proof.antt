@@ -36,17 +36,17 @@ enum-known-checked-2 c = search rules
 
 -- the entry, from the place at which the catalogue is known to be valid
 abbrev start : tie.In-Count → tie.Start
-start c = c.before.before.before.before.before.before.before
+start c = c.before.before.before.before.before
 
 -- so many records: those of a valid catalogue
-valid : (c : tie.In-Count) → Valid (start c).args.catalogue.now × (c.before.checked-in-Count-1.given.0.0 ≡ records_in (start c).args.catalogue.now)
-valid c = checked-valid _ _ (sym c.before.before.before.check-checked.ensures.0 ∙ c.before.checked-in-Count-1.given.1)
+valid : (c : tie.In-Count) → Valid (start c).args.catalogue.now × (c.in-Count.field-0 ≡ records_in (start c).args.catalogue.now)
+valid c = checked-valid _ _ (sym c.before.check-checked.ensures.0 ∙ c.in-Count.is)
 
 -- the slice that is handed on
-fits : (c : tie.After-stars-numbers) → 3 * c.before.before.checked-in-Count-1.given.0.0 ≤ length c.stars-numbers.result
+fits : (c : tie.After-stars-numbers) → 3 * c.before.in-Count.field-0 ≤ length c.stars-numbers.result
 fits c = lent-within _ _ _ c.stars-numbers.ensures (valid c.before).1 (valid c.before).0
 
-lent : (c : tie.After-stars-numbers) → take (3 * c.before.before.checked-in-Count-1.given.0.0) c.stars-numbers.result ≡ stars_of (start c.before).args.catalogue.now
+lent : (c : tie.After-stars-numbers) → take (3 * c.before.in-Count.field-0) c.stars-numbers.result ≡ stars_of (start c.before).args.catalogue.now
 lent c = lent-stars _ _ _ c.stars-numbers.ensures (valid c.before).1 (valid c.before).0
 
 abbrev whole : tie.Start → Call
@@ -74,8 +74,8 @@ promised c e f = let p = in-terms answer_of e (answers c) in (p.0, (f, p.1))
 
 returns : tie.Need-returns-in-Refused
 returns c =
-    let s = c.before.before.before.before.before.before.before in
-    let e = joined (whole s) (checked_refused _ _ (sym c.before.before.before.check-checked.ensures.0 ∙ c.before.checked-1.given.1)) in
+    let s = c.before.before.before.before.before in
+    let e = joined (whole s) (checked_refused _ _ (sym c.before.check-checked.ensures.0 ∙ c.in-Refused.is)) in
     promised (whole s) (sym e) (sym (refused-room (whole s) _ e))
 
 same_length : tie.Need-shape_of-room

@@ -29,11 +29,11 @@ right : (s : tie.Start) → is_index s.args.stars.now s.args.floor s.args.index.
 right s = is-index s.args.stars.now s.args.floor s.args.index.now s.requires.1
 
 abbrev start : tie.In-Accepted → tie.Start
-start t = t.before.before.before.before.before
+start t = t.before.before.before.before
 
 accepted : (t : tie.In-Accepted) → let a = (start t).args in first_applying
     (rows_beside a.directions.now (triples a.stars.now) a.tolerance (length a.room.now)) ≡ Accepted
-accepted t = sym t.before.before.beside-outcome.ensures ∙ t.enum_told-1.given.1
+accepted t = sym t.before.beside-outcome.ensures ∙ t.in-Accepted.is
 
 sound : (t : tie.In-Accepted) → let a = (start t).args in
     Directions a.directions.now × (a.tolerance ≤ 10000000000000000) × (directions_in a.directions.now * triples a.stars.now ≤ length a.room.now)
@@ -75,11 +75,11 @@ write-ranking-requires c κs =
 
 returns : tie.Need-returns-in-Refused
 returns c =
-    let b = c.before.before.before in
+    let b = c.before in
     let s = b.before.before.before in
     let a = s.args in
     let e = right-from a.directions.now a.stars.now a.index.now a.floor a.tolerance (length a.room.now) (right s)
-    ∙ sym b.beside-outcome.ensures ∙ c.before.outcome-1.given.1 in
+    ∙ sym b.beside-outcome.ensures ∙ c.in-Refused.is in
     (sym e, sym (refused-from a.directions.now a.stars.now a.index.now a.floor a.tolerance a.room.now _ e))
 
 same_length : tie.Need-shape_of-room

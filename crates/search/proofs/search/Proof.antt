@@ -24,11 +24,11 @@ use Rattle.search.proofs.search.Statement.{statement}
 use Rattle.search.proofs.search.Tie as tie
 
 abbrev start : tie.In-Accepted → tie.Start
-start c = c.before.before.before.before.before
+start c = c.before.before.before.before
 
 accepted : (c : tie.In-Accepted) → first_applying (refusals_of (start c).args.directions.now (start c).args.catalogue.now (start c).args.needed
     (start c).args.tolerance (start c).args.ranking.now) ≡ Accepted
-accepted c = sym c.before.before.first_refusal-outcome.ensures ∙ c.enum_told-1.given.1
+accepted c = sym c.before.first_refusal-outcome.ensures ∙ c.in-Accepted.is
 
 valid : (c : tie.In-Accepted) → Valid (start c).args.catalogue.now
 valid c = answers.valid _ _ _ _ _ (accepted c)
@@ -79,7 +79,7 @@ both : (directions : List ℤ) (bytes : List ℕ) (needed tolerance : ℕ) (ws :
 both directions bytes needed tolerance ws r h = (h, answers.identified directions bytes needed tolerance ws r h)
 
 returns : tie.Need-returns-in-Refused
-returns c = both _ _ _ _ _ _ (answers.refused-identified _ _ _ _ _ _ (sym c.before.before.before.first_refusal-outcome.ensures ∙ c.before.outcome-1.given.1))
+returns c = both _ _ _ _ _ _ (answers.refused-identified _ _ _ _ _ _ (sym c.before.first_refusal-outcome.ensures ∙ c.in-Refused.is))
 
 returns-2 : tie.Need-returns-in-Accepted
 returns-2 c =

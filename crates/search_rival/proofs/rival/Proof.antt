@@ -29,10 +29,10 @@ same_outcome : {a b : Identification} → a ≡ b → b.outcome ≡ a.outcome
 same_outcome e = ap (λ (i : Identification). i.outcome) (sym e)
 
 abbrev start : tie.In-Accepted → tie.Start
-start c = c.before.before.before.before.before.before
+start c = c.before.before.before.before.before
 
 accepted : (c : tie.In-Accepted) → (ours_in (start c)).outcome ≡ Accepted
-accepted c = same_outcome c.before.before.before.search-identification.ensures.1 ∙ c.enum_told-1.given.1
+accepted c = same_outcome c.before.before.search-identification.ensures.1 ∙ c.in-Accepted.is
 
 valid : (c : tie.In-Accepted) → Valid (start c).args.catalogue.now
 valid c = answers.valid _ _ _ _ _ (rivals.none-refuses _ _ _ _ _ (accepted c))
@@ -84,8 +84,8 @@ both directions bytes needed tolerance ws r h = (h, rivals.contested directions 
 
 returns : tie.Need-returns-in-Refused
 returns c =
-    both _ _ _ _ _ _ (rivals.refused-contested _ _ _ _ _ _ (same_outcome c.before.before.before.before.search-identification.ensures.1
-    ∙ c.before.outcome-1.given.1))
+    both _ _ _ _ _ _ (rivals.refused-contested _ _ _ _ _ _ (same_outcome c.before.before.search-identification.ensures.1
+    ∙ c.in-Refused.is))
 
 -- ours in the code is the search's answer
 rival-of-ours : (c : tie.After-first_rival-answer) → FirstRival (setup_of (start c.before.before.before.before).args.directions.now
@@ -99,8 +99,8 @@ rival-of-ours c =
     let a = (start e).args in
     subst (λ (i : Identification). FirstRival (setup_of a.directions.now (stars_of a.catalogue.now) a.needed a.tolerance) i.stars
     a.ranking.now a.directions.now (stars_of a.catalogue.now) c.first_rival-answer.result)
-    e.before.before.before.search-identification.ensures.1
-    (subst (λ (stars : List ℤ). FirstRival (setup_of a.directions.now stars a.needed a.tolerance) e.before.before.before.search-identification.result.stars
+    e.before.before.search-identification.ensures.1
+    (subst (λ (stars : List ℤ). FirstRival (setup_of a.directions.now stars a.needed a.tolerance) e.before.before.search-identification.result.stars
     a.ranking.now a.directions.now stars c.first_rival-answer.result) (lent n)
     c.first_rival-answer.ensures)
 

@@ -39,7 +39,7 @@ taken : (words : List ℕ) (stars from j : ℕ) → from ≤ j → at words j < 
 taken words stars from j h k = rw (le-leb from j h, lt-ltb (at words j) stars k)
 
 loop-holds : tie.Need-loop-i-init invariant-loop decreases-loop
-loop-holds c = (omega arith, search rules, λ j l. early c.args.t1 c.args.stars c.args.from j l)
+loop-holds c = (omega arith, search rules, λ j l. early c.args.words c.args.stars c.args.from j l)
 
 mul-number-of : tie.Need-offset_bounds-words-i invariant-loop decreases-loop
 mul-number-of c = search rules
@@ -55,8 +55,8 @@ unfolding assigned_from
 returns c =
     let l = c.before.before.before.loop-i in
     let a = c.before.before.before.before.args in
-    let h : at a.t1 l.i < a.stars = omega (arith, c.before.number_of.ensures) in
-    (first_of _ _ (record { most = l.invariant.1; none = l.invariant.2; taken = λ _. taken a.t1 a.stars a.from l.i l.invariant.0 h }), l.invariant.1)
+    let h : at a.words l.i < a.stars = omega (arith, c.before.number_of.ensures) in
+    (first_of _ _ (record { most = l.invariant.1; none = l.invariant.2; taken = λ _. taken a.words a.stars a.from l.i l.invariant.0 h }), l.invariant.1)
 
 add-i : tie.Need-overflow_add-i invariant-loop decreases-loop
 add-i c = search rules
@@ -68,8 +68,8 @@ loop-again : tie.Need-loop-i-preserved invariant-loop decreases-loop
 loop-again c =
     let l = c.before.before.before.loop-i in
     let a = c.before.before.before.before.args in
-    let h : a.stars ≤ at a.t1 l.i = omega (arith, c.before.number_of.ensures) in
-    (omega arith, omega arith, below_more _ _ l.invariant.2 (untaken a.t1 a.stars a.from l.i h))
+    let h : a.stars ≤ at a.words l.i = omega (arith, c.before.number_of.ensures) in
+    (omega arith, omega arith, below_more _ _ l.invariant.2 (untaken a.words a.stars a.from l.i h))
 
 returns-2 : tie.Need-returns invariant-loop decreases-loop
 unfolding assigned_from

@@ -17,7 +17,7 @@ use Rattle.attitude.proofs.orient.attitude_of.Tie as tie
 -- ---- the two directions that the definition names, at the call's entry
 
 abbrev words : tie.Start → List ℕ
-words s = s.args.t3
+words s = s.args.words
 
 abbrev count : tie.Start → ℕ
 count s = length s.args.directions.now / 3

@@ -18,10 +18,10 @@ of-vector-requires : tie.Need-of_vector-requires
 of-vector-requires c κs = search rules
 
 returns : tie.Need-returns-in-Refused
-returns c = c.of_refusal.ensures ∙ ap direction_numbers (sym c.before.before.direction-1.given.1)
+returns c = c.of_refusal.ensures ∙ ap direction_numbers (sym c.before.in-Refused.is)
 
 returns-2 : tie.Need-returns-in-Found
-returns-2 c = c.of_vector.ensures ∙ ap direction_numbers (sym c.before.before.direction-in-Found-1.given.1)
+returns-2 c = c.of_vector.ensures ∙ ap direction_numbers (sym c.before.in-Found.is)
 
 pub of_direction_spec : {M : Type 1} → statement M
 of_direction_spec =

@@ -23,12 +23,12 @@ of-whole-requires : tie.Need-of_whole-requires
 of-whole-requires c κs = search rules
 
 returns : tie.Need-returns-in-Refused
-returns c = c.of_refusal.ensures ∙ ap focal_numbers (sym c.before.before.focal-1.given.1)
+returns c = c.of_refusal.ensures ∙ ap focal_numbers (sym c.before.in-Refused.is)
 
 returns-2 : tie.Need-returns-in-Whole
 returns-2 c =
-    let g = c.before.before.focal-in-Whole-1.given in
-    let f = back (held {w = w64} g.0.0 c.before.known_told-in-Whole-1.given.0.1) in
+    let g = c.before.in-Whole in
+    let f = back (held {w = w64} g.0.0 c.before.in-Whole.field-1) in
     c.of_whole.ensures ∙ ap (λ (z : ℤ). accepted_numbers (z ∷ [])) f ∙ ap focal_numbers (sym g.1)
 
 pub of_focal_spec : {M : Type 1} → statement M

@@ -15,10 +15,10 @@ enum_told : tie.Need-enum_told-1
 enum_told c = search rules
 
 returns : tie.Need-returns-in-Refused
-returns c = c.of_refusal.ensures ∙ ap cosines_numbers (sym c.before.before.gimbal-1.given.1)
+returns c = c.of_refusal.ensures ∙ ap cosines_numbers (sym c.before.in-Refused.is)
 
 returns-2 : tie.Need-returns-in-Rows
-returns-2 c = ap cosines_numbers (sym c.enum_told-1.given.1)
+returns-2 c = ap cosines_numbers (sym c.in-Rows.is)
 
 pub of_cosines_spec : {M : Type 1} → statement M
 of_cosines_spec =

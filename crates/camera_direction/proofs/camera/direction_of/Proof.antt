@@ -32,13 +32,13 @@ module _ (s : tie.Start) where
 -- where a whole number is given
 module _ (c : tie.In-Whole) where
   abbrev start : tie.Start
-  start = c.before.before.before.before
+  start = c.before.before
 
   abbrev given : ℤ
-  given = c.before.focal-1.given.0.0
+  given = c.in-Whole.field-0
 
   known : (lens_ok start.args.lens ≡ true) × (given ≡ pos (focal_number start.args.lens))
-  known = whole-given start.args.lens given (sym c.before.before.before.focal_of.ensures.0 ∙ c.before.focal-1.given.1)
+  known = whole-given start.args.lens given (sym c.before.focal_of.ensures.0 ∙ c.in-Whole.is)
 
   given-between : Between 16384 4194304 given
   given-between = subst (Between 16384 4194304) (sym known.1) (focal-between start.args.lens known.0)
@@ -60,8 +60,8 @@ direction-by-focal-requires c κs = subst (Between 16384 4194304) (sym (back (F 
 
 returns : tie.Need-returns-in-Refused
 returns c =
-    let s = c.before.before.before.before in
-    let k = refused-given s.args.lens c.before.r-1.given.0.0 (sym c.before.before.before.focal_of.ensures.0 ∙ c.before.r-1.given.1) in
+    let s = c.before.before in
+    let k = refused-given s.args.lens c.in-Refused.field-0 (sym c.before.focal_of.ensures.0 ∙ c.in-Refused.is) in
     both s (ap (λ (r : Refusal). Refused r) k.1 ∙ sym (lens-out s.args.cx s.args.cy s.args.lens s.args.x s.args.y k.0))
 
 returns-2 : tie.Need-returns-in-Whole

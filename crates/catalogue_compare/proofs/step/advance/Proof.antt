@@ -62,7 +62,7 @@ returns c =
     let b = t.before.next-other.ensures in
     let a = t.before.before.next-one.ensures in
     let x = t.before.before.before.before.before.args in
-    first_step x.first.now x.second.now x.i x.j a.0 b.0 t.if-one-other.taken
+    first_step x.first.now x.second.now x.i x.j a.0 b.0 t.if-one-other.true
 
 cast-t10 : tie.Need-overflow_cast-result-then-other-one
 cast-t10 c = search rules

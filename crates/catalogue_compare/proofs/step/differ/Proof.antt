@@ -60,7 +60,7 @@ loop-again : tie.Need-loop-k-preserved invariant-loop decreases-loop
 loop-again c =
     let l : tie.At-loop-k invariant-loop decreases-loop = search rules in
     let u : tie.After-u32_at invariant-loop decreases-loop = search rules in
-    (omega arith, below_more _ _ l.loop-k.inv.1 (sym u.u32_at.ensures ∙ c.if-u32_at.false ∙ c.before.u32_at-in-loop-k.ensures))
+    (omega arith, below_more _ _ l.loop-k.invariant.1 (sym u.u32_at.ensures ∙ c.if-u32_at.false ∙ c.before.u32_at-in-loop-k.ensures))
 
 returns-2 : tie.Need-returns invariant-loop decreases-loop
 returns-2 c =

@@ -60,7 +60,7 @@ returns-2 c =
     let t : tie.Else-s-eq0 = search rules in
     let p : tie.After-put_u32 = search rules in
     let x = t.before.before.before.args in
-    let d = t.if-s-eq0.left in
+    let d = t.if-s-eq0.false in
     let u = c.before.before.put_u32-2 in (
       omega (arith, ap length (told-one x.s d)),
       u.ensures

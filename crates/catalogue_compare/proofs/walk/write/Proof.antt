@@ -73,7 +73,7 @@ loop-less c =
 
 loop-again : tie.Need-loop-i-preserved invariant-loop decreases-loop
 loop-again c =
-    let p = c.before.before.put in
+    let p = c.put-found in
     let d = c.before.before.before.before in
     let a = d.before.before in (
       ap length p.ensures.1 ∙ length-sets a.loop-i.room (8 * a.loop-i.found) (told_bytes d.advance-s.result) ∙ a.loop-i.invariant.0,

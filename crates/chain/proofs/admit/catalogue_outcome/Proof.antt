@@ -16,10 +16,10 @@ enum_told : tie.Need-enum_told-1
 enum_told c = search rules
 
 returns : tie.Need-returns-in-Refused
-returns c = catalogue-told _ (sym (checked_refused _ _ (sym c.before.before.before.check.ensures.0 ∙ c.before.r-1.given.1)))
+returns c = catalogue-told _ (sym (checked_refused _ _ (sym c.before.check.ensures.0 ∙ c.in-Refused.is)))
 
 returns-2 : tie.Need-returns-in-Count
-returns-2 c = catalogue-told _ (sym (valid-accepted _ (checked-valid _ _ (sym c.before.before.check.ensures.0 ∙ c.enum_told-1.given.1)).0))
+returns-2 c = catalogue-told _ (sym (valid-accepted _ (checked-valid _ _ (sym c.before.check.ensures.0 ∙ c.in-Count.is)).0))
 
 pub catalogue_outcome_spec : {M : Type 1} → statement M
 catalogue_outcome_spec = tie.close (tie.spec check-requires enum-known-r enum_told returns returns-2)

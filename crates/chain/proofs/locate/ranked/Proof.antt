@@ -66,7 +66,7 @@ returns : tie.Need-returns-in-Refused
 returns c =
     let t : tie.After-take_sights-sighting = search rules in
     let o : tie.In-Refused = search rules in
-    (sighted-is t, sym (refused-room (whole t) t.take_sights-sighting.result (sighted-is t) _ o.enum_told-1.given.1))
+    (sighted-is t, sym (refused-room (whole t) t.take_sights-sighting.result (sighted-is t) _ o.in-Refused.is))
 
 same_length : tie.Need-shape_of-room
 same_length c = search rules
@@ -77,7 +77,7 @@ returns-2 c =
     let o : tie.In-Accepted = search rules in
     let k : tie.After-rank = search rules in
     let w = whole t in
-    let h = o.enum_told-in-Accepted-1.given.1 in (
+    let h = o.in-Accepted.is in (
       sighted-is t,
       k.rank.ensures.1.0
           ∙ ap (λ (ds : List ℤ). ranking.room_after ds w.catalogue w.settings.tolerance w.room) (lent t).front

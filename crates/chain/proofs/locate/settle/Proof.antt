@@ -24,7 +24,7 @@ use Rattle.chain.proofs.locate.settle.Statement.{statement}
 use Rattle.chain.proofs.locate.settle.Tie as tie
 
 abbrev start : tie.In-Accepted → tie.Start
-start c = c.before.before.before.before
+start c = c.before.before.before
 
 -- the slice of stars that is handed on
 lent : (c : tie.After-numbers-1) → take (3 * c.before.records-end.result) c.before.before.stars-numbers.result
@@ -65,7 +65,7 @@ attitude-of-requires c κs =
     let e : length (stars_of bytes) / 3 ≡ records_in bytes = omega (arith, valid-length bytes p.catalogue) in
     subst (λ (stars : List ℤ). (length (start t).args.directions.now / 3 ≤ 8)
     × (2 ≤ assigned (length stars / 3) (start t).args.found.stars (length (start t).args.directions.now / 3))) (sym (lent c))
-    (p.few, rw e (p.two t.enum_told-1.given.1))
+    (p.few, rw e (p.two t.in-Accepted.is))
 
 enum-known-r : tie.Need-enum_known-r
 enum-known-r c = search rules
@@ -84,29 +84,29 @@ found-is c =
     let t = c.before.before.before.before in
     let s = (start t).args in
     let o = c.attitude_of.ensures ∙ ap (λ (stars : List ℤ). orientation_of s.directions.now stars s.found.stars) (lent c.before) in
-    (λ i. answered refused_with (oriented s.report s.found.stars (sym o i)) (t.enum_told-1.given.1 i))
+    (λ i. answered refused_with (oriented s.report s.found.stars (sym o i)) (t.in-Accepted.is i))
 
 returns : tie.Need-returns-in-Refused
 unfolding settled_of
 returns c =
-    let k = c.before.before in
-    let s = k.before.before.before.before.args in
+    let k = c.before in
+    let s = k.before.before.before.args in
     c.refused.ensures ∙ sym (ap (answered refused_with (oriented s.report s.found.stars
-    (orientation_of s.directions.now (stars_of s.bytes.now) s.found.stars))) k.outcome-1.given.1)
+    (orientation_of s.directions.now (stars_of s.bytes.now) s.found.stars))) k.in-Refused.is)
 
 returns-2 : tie.Need-returns-in-Refused-attitude_of
 returns-2 c =
-    let a = c.before.before.before.before in
+    let a = c.before.before in
     let s = (start a.before.before.before.before).args in
-    c.refused-in-Refused-attitude_of.ensures ∙ sym (found-is a ∙ ap (oriented s.report s.found.stars) c.before.before.r-1.given.1)
+    c.refused-in-Refused-attitude_of.ensures ∙ sym (found-is a ∙ ap (oriented s.report s.found.stars) c.before.in-Refused-attitude_of.is)
 
 returns-3 : tie.Need-returns-in-Found
 returns-3 c =
-    let a = c.before.before.before in
+    let a = c.before in
     let t = a.before.before.before.before in
     let s = (start t).args in
-    ap (λ (o : Outcome). record { outcome = o; report = s.report; stars = s.found.stars; matrix = c.before.matrix-1.given.0.0 }) t.enum_told-1.given.1
-    ∙ sym (found-is a ∙ ap (oriented s.report s.found.stars) c.before.matrix-1.given.1)
+    ap (λ (o : Outcome). record { outcome = o; report = s.report; stars = s.found.stars; matrix = c.in-Found.field-0 }) t.in-Accepted.is
+    ∙ sym (found-is a ∙ ap (oriented s.report s.found.stars) c.in-Found.is)
 
 pub settle_spec : {M : Type 1} → statement M
 settle_spec =

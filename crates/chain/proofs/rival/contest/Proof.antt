@@ -72,7 +72,7 @@ contested-requires : tie.Need-contested-requires
 contested-requires c κs =
     let k : tie.After-ranked-sighting = search rules in
     let t : tie.In-Accepted = search rules in
-    ranking-stands (whole k) k.ranked-sighting.result k.ranked-sighting.ensures.0 t.enum_told-1.given.1 _ k.ranked-sighting.ensures.1
+    ranking-stands (whole k) k.ranked-sighting.result k.ranked-sighting.ensures.0 t.in-Accepted.is _ k.ranked-sighting.ensures.1
 
 same_length : tie.Need-shape_of-room-in-Refused
 same_length c = search rules
@@ -81,7 +81,7 @@ returns : tie.Need-returns-in-Refused
 returns c =
     let k : tie.After-ranked-sighting = search rules in
     let o : tie.In-Refused-2 = search rules in
-    (sym (refused-contest (whole k) _ (outcome-is k o.outcome-1.given.1)), k.ranked-sighting.ensures.1)
+    (sym (refused-contest (whole k) _ (outcome-is k o.in-Refused.is)), k.ranked-sighting.ensures.1)
 
 same-length-2 : tie.Need-shape_of-room-in-Accepted
 same-length-2 c = search rules
@@ -93,7 +93,7 @@ returns-2 c =
     let i : tie.After-contested = search rules in
     let w = whole k in (
       i.contested.ensures ∙ ap (λ (r : Report). our_contest r w.catalogue w.settings) (report-is k)
-          ∙ sym (accepted-contest w (outcome-is k t.enum_told-1.given.1)),
+          ∙ sym (accepted-contest w (outcome-is k t.in-Accepted.is)),
       k.ranked-sighting.ensures.1,
     )
 

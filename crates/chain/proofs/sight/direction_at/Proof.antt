@@ -45,14 +45,14 @@ enum_told c = search rules
 
 returns : tie.Need-returns-in-Found
 returns c =
-    let o = c.before.before.before in
-    let e = sym (ap vector_of c.before.v-1.given.1) ∙ direction-is o in
+    let o = c.before in
+    let e = sym (ap vector_of c.in-Found.is) ∙ direction-is o in
     (e, rw e (sight-within (start o).args.settings (start o).args.star))
 
 returns-2 : tie.Need-returns-in-Refused
 returns-2 c =
-    let o = c.before.before in
-    let e = sym (ap vector_of c.enum_told-1.given.1) ∙ direction-is o in
+    let o = c.before in
+    let e = sym (ap vector_of c.in-Refused.is) ∙ direction-is o in
     (e, rw e (sight-within (start o).args.settings (start o).args.star))
 
 pub direction_at_spec : {M : Type 1} → statement M

@@ -24,7 +24,7 @@ compared_is k = k.compare-compared.ensures.0 ∙ ap (compared_of (start k).args.
 -- the list has records, and stands at the front of its room
 module _ (c : tie.In-Count-2) where
   abbrev called : tie.After-compare-compared
-  called = c.before.before.before
+  called = c.before.before
 
   abbrev first : List ℕ
   first = (start called).args.first.now
@@ -33,10 +33,10 @@ module _ (c : tie.In-Count-2) where
   second = (start called).args.second.now
 
   abbrev records : ℕ
-  records = c.compared-in-Count-1.given.0.0
+  records = c.in-Count.field-0
 
   listed-is : compared_of first second 8192 ≡ Count records
-  listed-is = sym (compared_is called) ∙ c.compared-in-Count-1.given.1
+  listed-is = sym (compared_is called) ∙ c.in-Count.is
 
   zeros : length (replicate {A = ℕ} 8192 0) ≡ 8192
   zeros = length-replicate {A = ℕ} 8192 0
@@ -74,13 +74,13 @@ enum-known-compared-2 : tie.Need-enum_known-compared-in-Count-1
 enum-known-compared-2 c = search rules
 
 mul-end : tie.Need-overflow_mul-end
-mul-end c = omega (arith, fits c.before)
+mul-end c = omega (arith, fits c)
 
 array-share-prefix-list : tie.Need-slice_bounds-list-end
-array-share-prefix-list c = within c.before.before
+array-share-prefix-list c = within c.before
 
 slice-aggregate-lines : tie.Need-slice_bounds-lines-end
-slice-aggregate-lines c = sym (length-take-le _ _ (within c.before.before.before))
+slice-aggregate-lines c = sym (length-take-le _ _ (within c.before.before))
 
 lines-requires : tie.Need-lines-requires
 lines-requires c κs = search rules
@@ -94,7 +94,7 @@ returns-2 c =
     let e : tie.Else-room-lt-ROOM = search rules in
     let k : tie.After-compare-compared = search rules in
     let m : tie.In-Refused-2 = search rules in
-    let t = text-refused (start k).args.first.now (start k).args.second.now _ (sym (compared_is k) ∙ m.compared-1.given.1) in
+    let t = text-refused (start k).args.first.now (start k).args.second.now _ (sym (compared_is k) ∙ m.in-Refused.is) in
     room-told 32768 _ _ _ _ _ 29696 e.if-room-lt-ROOM.left (omega (arith, w.refused.ensures.1)) (omega arith) t w.refused.ensures.0
 
 same-length-2 : tie.Need-shape_of-room-in-Count

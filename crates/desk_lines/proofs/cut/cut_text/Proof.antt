@@ -91,7 +91,7 @@ mul-kept c =
     let k : tie.After-cut-shortened = search rules in
     let t : tie.In-Count-2 = search rules in
     let x = (start k).args in
-    record { fits = omega (arith, flight-within x.bytes.now x.limit x.closeness _ (sym (gave k) ∙ t.shortened-in-Count-1.given.1)) }
+    record { fits = omega (arith, flight-within x.bytes.now x.limit x.closeness _ (sym (gave k) ∙ t.in-Count.is)) }
 
 whole-line-requires-2 : tie.Need-whole_line-line-requires-in-Count
 whole-line-requires-2 c κs = search rules
@@ -108,7 +108,7 @@ returns c =
     let t : tie.In-Refused-2 = search rules in
     let k : tie.After-cut-shortened = search rules in
     let x = (start k).args in
-    refused x.bytes.now x.limit x.closeness x.room.now _ _ (gave k) (left k) k.before.before.records-records.ensures _ t.shortened-1.given.1
+    refused x.bytes.now x.limit x.closeness x.room.now _ _ (gave k) (left k) k.before.before.records-records.ensures _ t.in-Refused.is
     w.whole_line-line.ensures.0 w.whole_line-line.ensures.1.0 w.whole_line-line.ensures.1.1
 
 same-length-3 : tie.Need-shape_of-bytes-in-Count
@@ -123,7 +123,7 @@ returns-2 c =
     let t : tie.In-Count-2 = search rules in
     let k : tie.After-cut-shortened = search rules in
     let x = (start k).args in
-    kept x.bytes.now x.limit x.closeness x.room.now _ _ (gave k) (left k) k.before.before.records-records.ensures _ t.shortened-in-Count-1.given.1
+    kept x.bytes.now x.limit x.closeness x.room.now _ _ (gave k) (left k) k.before.before.records-records.ensures _ t.in-Count.is
     w.whole_line-line-in-Count.ensures.0 w.whole_line-line-in-Count.ensures.1.0 w.whole_line-line-in-Count.ensures.1.1
 
 pub cut_text_spec : {M : Type 1} → statement M

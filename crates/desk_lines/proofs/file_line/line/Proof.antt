@@ -38,7 +38,7 @@ returns : tie.Need-returns-in-Refused
 returns c =
     let w = c.before.before in
     let t : tie.In-Refused-2 = search rules in
-    (told t.said-1.given.1 w.refused.ensures.0, omega (arith, w.refused.ensures.1))
+    (told t.in-Refused.is w.refused.ensures.0, omega (arith, w.refused.ensures.1))
 
 same-length-2 : tie.Need-shape_of-room-in-Records
 same-length-2 c = search rules
@@ -47,7 +47,7 @@ returns-2 : tie.Need-returns-in-Records
 returns-2 c =
     let w = c.before.before in
     let t : tie.In-Records-2 = search rules in
-    (told t.said-in-Records-1.given.1 w.records_line.ensures.0, omega (arith, w.records_line.ensures.1))
+    (told t.in-Records.is w.records_line.ensures.0, omega (arith, w.records_line.ensures.1))
 
 same-length-3 : tie.Need-shape_of-room-in-Kept
 same-length-3 c = search rules
@@ -56,7 +56,7 @@ returns-3 : tie.Need-returns-in-Kept
 returns-3 c =
     let w = c.before.before in
     let t : tie.In-Kept-2 = search rules in
-    (told t.said-in-Kept-1.given.1 w.Kept-line.ensures.0, omega (arith, w.Kept-line.ensures.1))
+    (told t.in-Kept.is w.Kept-line.ensures.0, omega (arith, w.Kept-line.ensures.1))
 
 pub line_spec : {M : Type 1} → statement M
 line_spec =

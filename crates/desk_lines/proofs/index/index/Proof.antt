@@ -83,7 +83,7 @@ mul-bytes c =
     let b : tie.After-build-built = search rules in
     let t : tie.In-Count-2 = search rules in
     let a = (start b).args in
-    record { fits = omega (arith, index-within a.catalogue.now a.floor (length a.index.now) _ (sym (built-is b) ∙ t.built-in-Count-1.given.1)) }
+    record { fits = omega (arith, index-within a.catalogue.now a.floor (length a.index.now) _ (sym (built-is b) ∙ t.in-Count.is)) }
 
 whole-line-requires-2 : tie.Need-whole_line-line-requires-in-Count
 whole-line-requires-2 c κs = search rules
@@ -100,7 +100,7 @@ returns c =
     let t : tie.In-Refused-2 = search rules in
     let b : tie.After-build-built = search rules in
     let a = (start b).args in
-    refused a.catalogue.now a.floor a.index.now a.room.now _ _ (built-is b) (made-is b) _ t.built-1.given.1 w.whole_line-line.ensures.0
+    refused a.catalogue.now a.floor a.index.now a.room.now _ _ (built-is b) (made-is b) _ t.in-Refused.is w.whole_line-line.ensures.0
     w.whole_line-line.ensures.1.0 w.whole_line-line.ensures.1.1
 
 same-length-3 : tie.Need-shape_of-index-in-Count
@@ -115,7 +115,7 @@ returns-2 c =
     let t : tie.In-Count-2 = search rules in
     let b : tie.After-build-built = search rules in
     let a = (start b).args in
-    records a.catalogue.now a.floor a.index.now a.room.now _ _ (built-is b) (made-is b) _ t.built-in-Count-1.given.1 w.whole_line-line-in-Count.ensures.0
+    records a.catalogue.now a.floor a.index.now a.room.now _ _ (built-is b) (made-is b) _ t.in-Count.is w.whole_line-line-in-Count.ensures.0
     w.whole_line-line-in-Count.ensures.1.0 w.whole_line-line-in-Count.ensures.1.1
 
 pub index_spec : {M : Type 1} → statement M

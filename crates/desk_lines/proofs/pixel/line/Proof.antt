@@ -32,7 +32,7 @@ returns : tie.Need-returns-in-Refused
 returns c =
     let w = c.before.before in
     let t : tie.In-Refused-2 = search rules in
-    (told t.explanation-1.given.1 w.refused.ensures.0, omega (arith, w.refused.ensures.1))
+    (told t.in-Refused.is w.refused.ensures.0, omega (arith, w.refused.ensures.1))
 
 same-length-2 : tie.Need-shape_of-room-in-Given
 same-length-2 c = search rules
@@ -41,7 +41,7 @@ returns-2 : tie.Need-returns-in-Given
 returns-2 c =
     let w = c.before.before in
     let t : tie.In-Given-2 = search rules in
-    (told t.explanation-in-Given-1.given.1 w.reason_line.ensures.0, omega (arith, w.reason_line.ensures.1))
+    (told t.in-Given.is w.reason_line.ensures.0, omega (arith, w.reason_line.ensures.1))
 
 pub line_spec : {M : Type 1} → statement M
 line_spec =

@@ -62,7 +62,7 @@ returns : tie.Need-returns-in-Dark
 returns c =
     let w = c.before.before in
     let t : tie.In-Dark-2 = search rules in
-    (told t.reason-1.given.1 w.pair.ensures.0, omega (arith, w.pair.ensures.1))
+    (told t.in-Dark.is w.pair.ensures.0, omega (arith, w.pair.ensures.1))
 
 same-length-2 : tie.Need-shape_of-room-in-Beaten
 same-length-2 c = search rules
@@ -71,7 +71,7 @@ returns-2 : tie.Need-returns-in-Beaten
 returns-2 c =
     let w = c.before.before in
     let t : tie.In-Beaten-2 = search rules in
-    (told t.reason-in-Beaten-1.given.1 w.pair-in-Beaten.ensures.0, omega (arith, w.pair-in-Beaten.ensures.1))
+    (told t.in-Beaten.is w.pair-in-Beaten.ensures.0, omega (arith, w.pair-in-Beaten.ensures.1))
 
 same-length-3 : tie.Need-shape_of-room-in-Edge
 same-length-3 c = search rules
@@ -80,7 +80,7 @@ returns-3 : tie.Need-returns-in-Edge
 returns-3 c =
     let w = c.before.before in
     let t : tie.In-Edge-2 = search rules in
-    (told t.reason-in-Edge-1.given.1 w.side_line.ensures.0, omega (arith, w.side_line.ensures.1))
+    (told t.in-Edge.is w.side_line.ensures.0, omega (arith, w.side_line.ensures.1))
 
 same-length-4 : tie.Need-shape_of-room-in-Lone
 same-length-4 c = search rules
@@ -89,7 +89,7 @@ returns-4 : tie.Need-returns-in-Lone
 returns-4 c =
     let w = c.before.before in
     let t : tie.In-Lone-2 = search rules in
-    (told t.reason-in-Lone-1.given.1 w.lone.ensures.0, omega (arith, w.lone.ensures.1))
+    (told t.in-Lone.is w.lone.ensures.0, omega (arith, w.lone.ensures.1))
 
 same-length-5 : tie.Need-shape_of-room-in-Measured
 same-length-5 c = search rules
@@ -98,7 +98,7 @@ returns-5 : tie.Need-returns-in-Measured
 returns-5 c =
     let w = c.before.before in
     let t : tie.In-Measured-2 = search rules in
-    (told t.reason-in-Measured-1.given.1 w.measured.ensures.0, omega (arith, w.measured.ensures.1))
+    (told t.in-Measured.is w.measured.ensures.0, omega (arith, w.measured.ensures.1))
 
 pub reason_line_spec : {M : Type 1} → statement M
 reason_line_spec =

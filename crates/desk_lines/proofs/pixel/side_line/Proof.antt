@@ -57,7 +57,7 @@ returns : tie.Need-returns-in-Left
 returns c =
     let w = c.before.before in
     let t : tie.In-Left = search rules in
-    (told {t = Left} t.enum_told-1.given.1 w.word.ensures, omega (arith, w.word.ensures.place))
+    (told {t = Left} t.in-Left.is w.word.ensures, omega (arith, w.word.ensures.place))
 
 same-length-2 : tie.Need-shape_of-room-in-Right
 same-length-2 c = search rules
@@ -66,7 +66,7 @@ returns-2 : tie.Need-returns-in-Right
 returns-2 c =
     let w = c.before.before in
     let t : tie.In-Right = search rules in
-    (told {t = Right} t.enum_told-in-Right-1.given.1 w.word-in-Right.ensures, omega (arith, w.word-in-Right.ensures.place))
+    (told {t = Right} t.in-Right.is w.word-in-Right.ensures, omega (arith, w.word-in-Right.ensures.place))
 
 same-length-3 : tie.Need-shape_of-room-in-Top
 same-length-3 c = search rules
@@ -75,7 +75,7 @@ returns-3 : tie.Need-returns-in-Top
 returns-3 c =
     let w = c.before.before in
     let t : tie.In-Top = search rules in
-    (told {t = Top} t.enum_told-in-Top-1.given.1 w.word-in-Top.ensures, omega (arith, w.word-in-Top.ensures.place))
+    (told {t = Top} t.in-Top.is w.word-in-Top.ensures, omega (arith, w.word-in-Top.ensures.place))
 
 same-length-4 : tie.Need-shape_of-room-in-Bottom
 same-length-4 c = search rules
@@ -84,7 +84,7 @@ returns-4 : tie.Need-returns-in-Bottom
 returns-4 c =
     let w = c.before.before in
     let t : tie.In-Bottom = search rules in
-    (told {t = Bottom} t.enum_told-in-Bottom-1.given.1 w.word-in-Bottom.ensures, omega (arith, w.word-in-Bottom.ensures.place))
+    (told {t = Bottom} t.in-Bottom.is w.word-in-Bottom.ensures, omega (arith, w.word-in-Bottom.ensures.place))
 
 pub side_line_spec : {M : Type 1} → statement M
 side_line_spec =

@@ -62,7 +62,7 @@ returns-2 c =
     let e : tie.Else-room-lt-LINE = search rules in
     let a : tie.Start = search rules in
     let t = refused-line a.args.settings.now a.args.frame.now a.args.row a.args.column _ (sym f.read_settings-reading.ensures.0
-    ∙ k.reading-1.given.1) in
+    ∙ k.in-Refused.is) in
     room-told 128 _ _ _ _ _ 72 e.if-room-lt-LINE.left (omega (arith, w.refused.ensures.1)) (omega arith) t w.refused.ensures.0
 
 same-length-2 : tie.Need-shape_of-room-in-Read
@@ -77,7 +77,7 @@ returns-3 c =
     let e : tie.Else-room-lt-LINE = search rules in
     let a : tie.Start = search rules in
     let t = read-line a.args.settings.now a.args.frame.now a.args.row a.args.column _ _ (sym f.read_settings-reading.ensures.0
-    ∙ k.reading-in-Read-1.given.1) x.explain-explanation.ensures in
+    ∙ k.in-Read.is) x.explain-explanation.ensures in
     room-told 128 _ _ _ _ _ 72 e.if-room-lt-LINE.left w.line.ensures.1 (omega arith) t w.line.ensures.0
 
 pub why_spec : {M : Type 1} → statement M

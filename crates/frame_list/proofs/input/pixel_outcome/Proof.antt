@@ -11,9 +11,9 @@ use Rattle.frame_list.proofs.input.pixel_outcome.Tie as tie
 
 -- past the frame's own tests
 accepted : (c : tie.In-Accepted)
-    → let a = c.before.before.before.before.args in
+    → let a = c.before.before.before.args in
     first_applying (frame_rows a.samples.now a.width a.height a.threshold) ≡ Accepted
-accepted c = sym c.before.before.frame_outcome-outcome.ensures.0 ∙ c.enum_told-in-Accepted-1.given.1
+accepted c = sym c.before.frame_outcome-outcome.ensures.0 ∙ c.in-Accepted.is
 
 frame-outcome-requires : tie.Need-frame_outcome-outcome-requires
 frame-outcome-requires c κs = search rules
@@ -30,7 +30,7 @@ plain-requires c κs = search rules
 returns : tie.Need-returns-then-height-row
 returns c =
     let o = c.before.before in
-    let a = o.before.before.before.before.args in
+    let a = o.before.before.before.args in
     pixel-told a.samples.now a.width a.height a.threshold a.row a.column
     (c.plain.ensures
     ∙ sym (pixel-outside a.samples.now a.width a.height a.threshold a.row a.column (accepted o) (rw (le-leb _ _ c.before.if-height-row.true))))
@@ -41,7 +41,7 @@ plain-requires-2 c κs = search rules
 returns-2 : tie.Need-returns-then-width-column
 returns-2 c =
     let o = c.before.before.before in
-    let a = o.before.before.before.before.args in
+    let a = o.before.before.before.args in
     pixel-told a.samples.now a.width a.height a.threshold a.row a.column
     (c.plain-then-width-column.ensures
     ∙ sym
@@ -50,18 +50,18 @@ returns-2 c =
 
 returns-3 : tie.Need-returns-in-Refused
 returns-3 c =
-    let o = c.before.before.frame_outcome-outcome in
-    let a = c.before.before.before.before.args in
-    let g = c.enum_told-1.given in
+    let o = c.before.frame_outcome-outcome in
+    let a = c.before.before.before.args in
+    let g = c.in-Refused in
     pixel-told a.samples.now a.width a.height a.threshold a.row a.column
     (g.1 ∙ sym (pixel-refused a.samples.now a.width a.height a.threshold a.row a.column _ (sym o.ensures.0 ∙ g.1)))
 
 returns-4 : tie.Need-returns-else-width-column
 returns-4 c =
     let o = c.before.before in
-    let a = o.before.before.before.before.args in
+    let a = o.before.before.before.args in
     pixel-told a.samples.now a.width a.height a.threshold a.row a.column
-    (o.enum_told-in-Accepted-1.given.1
+    (o.in-Accepted.is
     ∙ sym
     (pixel-inside a.samples.now a.width a.height a.threshold a.row a.column (accepted o)
     (rw (lt-leb _ _ c.before.if-height-row.false, lt-leb _ _ c.if-width-column.false))))

@@ -33,7 +33,7 @@ array-copy-out-fourth : tie.Need-bounds-guides-3
 array-copy-out-fourth c = search rules
 
 returns : tie.Need-returns
-returns c = each c.before.before.before.before.args.t1
+returns c = each c.before.before.before.before.args.guides
 
 pub identities_of_spec : {M : Type 1} → statement M
 identities_of_spec =

@@ -58,8 +58,8 @@ returns c =
     let w = c.before.before in
     let i = w.before.before in
     let e = i.before in
-    let a = c.before.before.before.before.before.before.before.before.before.before.args in
-    (told (rival-text a.report a.catalogue.now a.contest e.enum_told-1.given.1 i.if-contest.true) w.stars.ensures.0, w.stars.ensures.1)
+    let a = c.before.before.before.before.before.before.before.before.before.args in
+    (told (rival-text a.report a.catalogue.now a.contest e.in-Accepted.is i.if-contest.true) w.stars.ensures.0, w.stars.ensures.1)
 
 slice-aggregate-word : tie.Need-slice-aggregate-word
 slice-aggregate-word c = search rules
@@ -73,9 +73,9 @@ same-length-2 c = search rules
 returns-2 : tie.Need-returns-in-Refused
 returns-2 c =
     let w = c.before.before in
-    let k = w.before.before.before in
-    let a = c.before.before.before.before.before.before.before.before.before.before.args in
-    (told (refused-text a.report a.catalogue.now a.contest _ k.outcome-1.given.1) w.refused.ensures.0, omega (arith, w.refused.ensures.1))
+    let k = w.before.before in
+    let a = c.before.before.before.before.before.before.before.before.args in
+    (told (refused-text a.report a.catalogue.now a.contest _ k.in-Refused.is) w.refused.ensures.0, omega (arith, w.refused.ensures.1))
 
 same-length-3 : tie.Need-shape_of-room-else-contest
 same-length-3 c = search rules
@@ -85,8 +85,8 @@ returns-3 c =
     let w = c.before.before in
     let i = w.before.before.before in
     let e = i.before in
-    let a = c.before.before.before.before.before.before.before.before.before.before.before.args in (
-      told (alone-text a.report a.catalogue.now a.contest e.enum_told-1.given.1 i.if-contest.false) w.word.ensures,
+    let a = c.before.before.before.before.before.before.before.before.before.before.args in (
+      told (alone-text a.report a.catalogue.now a.contest e.in-Accepted.is i.if-contest.false) w.word.ensures,
       omega (arith, w.word.ensures.place),
     )
 

@@ -21,16 +21,16 @@ enum-known-checked-2 c = search rules
 
 beside-requires : tie.Need-beside-requires
 beside-requires c κs =
-    let v = checked-valid _ _ (sym c.before.before.before.check-checked.ensures.0 ∙ c.before.checked-in-Count-1.given.1) in
+    let v = checked-valid _ _ (sym c.before.check-checked.ensures.0 ∙ c.in-Count.is) in
     omega (arith, v.0.size.most, v.1)
 
 returns : tie.Need-returns-in-Refused
-returns c = sym (outcome-joined _ _ _ _ (checked_refused _ _ (sym c.before.before.before.check-checked.ensures.0 ∙ c.before.checked-1.given.1)))
+returns c = sym (outcome-joined _ _ _ _ (checked_refused _ _ (sym c.before.check-checked.ensures.0 ∙ c.in-Refused.is)))
 
 returns-2 : tie.Need-returns-in-Count
 returns-2 c =
-    let a = c.before.before.before.before.before.before.args in
-    let v = checked-valid _ _ (sym c.before.before.before.before.check-checked.ensures.0 ∙ c.before.before.checked-in-Count-1.given.1) in
+    let a = c.before.before.before.before.args in
+    let v = checked-valid _ _ (sym c.before.before.check-checked.ensures.0 ∙ c.before.in-Count.is) in
     c.beside.ensures
     ∙ ap (λ (n : ℕ). first_applying (rows_beside a.directions.now n a.tolerance a.words)) v.1
     ∙ sym (outcome-joined _ _ _ _ (valid-accepted _ v.0))

@@ -57,23 +57,23 @@ plain-requires-3 c κs = search rules
 
 returns-3 : tie.Need-returns-then-dirs-needed
 returns-3 c =
-    let o = c.before.before.before.before.before in
+    let o = c.before.before.before.before in
     c.plain-then-dirs-needed.ensures
-    ∙ sym (rejected.too_few _ _ _ _ _ (listed o.before.before) (demanded o) (sym c.before.before.before.before.check-judgement.ensures
-    ∙ c.before.before.enum_told-1.given.1) c.before.if-dirs-needed.true)
+    ∙ sym (rejected.too_few _ _ _ _ _ (listed o.before.before) (demanded o) (sym c.before.before.before.check-judgement.ensures
+    ∙ c.before.before.in-Good.is) c.before.if-dirs-needed.true)
 
 returns-4 : tie.Need-returns-in-Bad
 returns-4 c =
-    let o = c.before.before.before.before.before in
+    let o = c.before.before.before in
     c.at.ensures
-    ∙ sym (rejected.not-once _ _ _ _ _ (listed o.before.before) (demanded o) _ (sym c.before.before.before.before.check-judgement.ensures
-    ∙ c.before.before.judgement-1.given.1))
+    ∙ sym (rejected.not-once _ _ _ _ _ (listed o.before.before) (demanded o) _ (sym c.before.before.check-judgement.ensures
+    ∙ c.before.in-Bad.is))
 
 returns-5 : tie.Need-returns-else-dirs-needed
 returns-5 c =
-    let o = c.before.before.before.before in
-    sym (rejected.none-applies _ _ _ _ _ (listed o.before.before) (demanded o) (sym c.before.before.before.check-judgement.ensures
-    ∙ c.before.enum_told-1.given.1) c.if-dirs-needed.false)
+    let o = c.before.before.before in
+    sym (rejected.none-applies _ _ _ _ _ (listed o.before.before) (demanded o) (sym c.before.before.check-judgement.ensures
+    ∙ c.before.in-Good.is) c.if-dirs-needed.false)
 
 pub beside_spec : {M : Type 1} → statement M
 beside_spec =

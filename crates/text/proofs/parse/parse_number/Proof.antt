@@ -42,7 +42,7 @@ returns-2 c =
     let w : tie.After-with_digit-more invariant-loop decreases-loop = search rules in
     let o : tie.In-loop-i invariant-loop decreases-loop = search rules in
     let l = o.before.loop-i in
-    told _ (sym (l.inv.2 ∙ parsed-stop _ l.i l.value o.loop-i-test.taken (sym w.with_digit-more.ensures ∙ c.enum_told-1.given.1)))
+    told _ (sym (l.inv.2 ∙ parsed-stop _ l.i l.value o.loop-i-test.taken (sym w.with_digit-more.ensures ∙ c.in_default.is)))
 
 add-i : tie.Need-overflow_add-i invariant-loop decreases-loop
 add-i c = search rules
@@ -55,7 +55,7 @@ loop-again c =
     let w : tie.After-with_digit-more invariant-loop decreases-loop = search rules in
     let o : tie.In-loop-i invariant-loop decreases-loop = search rules in
     let l = o.before.loop-i in
-    let more = parsed-next _ l.i l.value o.loop-i-test.taken c.before.more-1.given.0.0 (sym w.with_digit-more.ensures ∙ c.before.more-1.given.1)
+    let more = parsed-next _ l.i l.value o.loop-i-test.true c.in-Number.field-0 (sym w.with_digit-more.ensures ∙ c.in-Number.is)
     in
     (omega (arith, o.loop-i-test.taken), more.0, l.inv.2 ∙ more.1)
 

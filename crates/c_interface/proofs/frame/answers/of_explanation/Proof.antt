@@ -18,10 +18,10 @@ of-reason-requires : tie.Need-of_reason-requires
 of-reason-requires c κs = search rules
 
 returns : tie.Need-returns-in-Refused
-returns c = c.of_refusal.ensures ∙ ap explanation_numbers (sym c.before.before.explanation-1.given.1)
+returns c = c.of_refusal.ensures ∙ ap explanation_numbers (sym c.before.in-Refused.is)
 
 returns-2 : tie.Need-returns-in-Given
-returns-2 c = c.of_reason.ensures ∙ ap explanation_numbers (sym c.before.before.explanation-in-Given-1.given.1)
+returns-2 c = c.of_reason.ensures ∙ ap explanation_numbers (sym c.before.in-Given.is)
 
 pub of_explanation_spec : {M : Type 1} → statement M
 of_explanation_spec =

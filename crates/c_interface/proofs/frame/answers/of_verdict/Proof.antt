@@ -18,10 +18,10 @@ of-judged-requires : tie.Need-of_judged-requires
 of-judged-requires c κs = search rules
 
 returns : tie.Need-returns-in-Refused
-returns c = c.of_refusal.ensures ∙ ap verdict_numbers (sym c.before.before.judgement-1.given.1)
+returns c = c.of_refusal.ensures ∙ ap verdict_numbers (sym c.before.in-Refused.is)
 
 returns-2 : tie.Need-returns-in-Judged
-returns-2 c = c.of_judged.ensures ∙ ap verdict_numbers (sym c.before.before.judgement-in-Judged-1.given.1)
+returns-2 c = c.of_judged.ensures ∙ ap verdict_numbers (sym c.before.in-Judged.is)
 
 pub of_verdict_spec : {M : Type 1} → statement M
 of_verdict_spec =

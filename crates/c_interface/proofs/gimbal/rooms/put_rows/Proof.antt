@@ -25,8 +25,8 @@ same_length c = search rules
 returns-2 : tie.Need-returns-in-Rows
 returns-2 c =
     let p = c.before.before in
-    let known = p.before.before.before in
-    p.put_cosines.ensures ∙ ap (λ (g : Gimbal). written (floats_of g) known.before.before.before.args.room.now) (sym known.gimbal-1.given.1)
+    let known = p.before.before in
+    p.put_cosines.ensures ∙ ap (λ (g : Gimbal). written (floats_of g) known.before.before.args.room.now) (sym known.in-Rows.is)
 
 pub put_rows_spec : {M : Type 1} → statement M
 put_rows_spec =

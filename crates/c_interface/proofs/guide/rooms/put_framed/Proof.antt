@@ -14,7 +14,7 @@ enum-told-2 : tie.Need-enum_told-in-Accepted
 enum-told-2 c = search rules
 
 put-guides-requires : tie.Need-put_guides-requires
-put-guides-requires c κs = let s = c.before.before.before.before.before in (s.requires.1 (ap is_accepted c.before.enum_told-in-Accepted-1.given.1), s.requires.0)
+put-guides-requires c κs = let s = c.before.before.before.before in (s.requires.1 (ap is_accepted c.before.in-Accepted.is), s.requires.0)
 
 returns : tie.Need-returns-in-Refused
 returns c = search rules
@@ -25,8 +25,8 @@ same_length c = search rules
 returns-2 : tie.Need-returns-in-Accepted
 returns-2 c =
     let p = c.before in
-    let s = p.before.before.before.before.before.before.args in
-    p.put_guides.ensures ∙ ap (λ (o : Outcome). gone s.guided.guider s.room.now o) (sym p.before.before.enum_told-in-Accepted-1.given.1)
+    let s = p.before.before.before.before.before.args in
+    p.put_guides.ensures ∙ ap (λ (o : Outcome). gone s.guided.guider s.room.now o) (sym p.before.before.in-Accepted.is)
 
 pub put_framed_spec : {M : Type 1} → statement M
 put_framed_spec =

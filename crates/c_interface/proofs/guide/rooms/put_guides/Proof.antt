@@ -58,7 +58,7 @@ loop-again c =
       l.invariant.1,
       l.invariant.2,
       rw (e, length-set, length-set, length-set, length-set) l.invariant.3,
-      e ∙ ap (λ (xs : List ℤ). with_guide xs (2 + 4 * l.i) (get_or s.t2 l.i no_guide)) l.invariant.4 ∙ sym (guides-next s.t2 l.i s.room.now),
+      e ∙ ap (λ (xs : List ℤ). with_guide xs (2 + 4 * l.i) (get_or s.guides l.i no_guide)) l.invariant.4 ∙ sym (guides-next s.guides l.i s.room.now),
     )
 
 same_length : tie.Need-shape_of-room invariant-loop decreases-loop
@@ -69,7 +69,7 @@ returns c =
     let l = c.before.loop-i in
     let s = c.before.before.args in
     let e : l.i ≡ s.n = omega arith in
-    l.invariant.4 ∙ ap (λ (k : ℕ). with_guides s.t2 k s.room.now) e
+    l.invariant.4 ∙ ap (λ (k : ℕ). with_guides s.guides k s.room.now) e
 
 pub put_guides_spec : {M : Type 1} → statement M
 put_guides_spec =

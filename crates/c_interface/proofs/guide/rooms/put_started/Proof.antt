@@ -24,8 +24,8 @@ same_length c = search rules
 returns-2 : tie.Need-returns-in-Accepted
 returns-2 c =
     let p = c.before in
-    let s = p.before.before.before.before.before.args in
-    p.put_guider.ensures ∙ ap (λ (o : Outcome). begun s.guided.guider s.room.now o) (sym p.before.before.enum_told-in-Accepted-1.given.1)
+    let s = p.before.before.before.before.args in
+    p.put_guider.ensures ∙ ap (λ (o : Outcome). begun s.guided.guider s.room.now o) (sym p.before.before.in-Accepted.is)
 
 pub put_started_spec : {M : Type 1} → statement M
 put_started_spec =

@@ -18,10 +18,10 @@ of-matrix-requires : tie.Need-of_matrix-requires
 of-matrix-requires c κs = search rules
 
 returns : tie.Need-returns-in-Refused
-returns c = c.of_refusal.ensures ∙ ap attitude_numbers (sym c.before.before.attitude-1.given.1)
+returns c = c.of_refusal.ensures ∙ ap attitude_numbers (sym c.before.in-Refused.is)
 
 returns-2 : tie.Need-returns-in-Found
-returns-2 c = c.of_matrix.ensures ∙ ap attitude_numbers (sym c.before.before.attitude-in-Found-1.given.1)
+returns-2 c = c.of_matrix.ensures ∙ ap attitude_numbers (sym c.before.in-Found.is)
 
 pub of_attitude_spec : {M : Type 1} → statement M
 of_attitude_spec =
