@@ -21,24 +21,24 @@ plain-requires-3 : tie.Need-plain-requires-then-count-needed
 plain-requires-3 c κs = search rules
 
 returns : tie.Need-returns-then-not-demand_ok
-returns c = c.plain.ensures ∙ sym (demand-refused _ _ _ (sym c.before.before.demand_ok.ensures ∙ not-true _ c.before.if-not-demand_ok.true))
+returns c = c.plain.ensures ∙ sym (demand-refused _ _ _ (sym c.before.before.demand_ok.ensures ∙ c.before.if-not-demand_ok.true))
 
 returns-2 : tie.Need-returns-then-words-lt-ROOM
 returns-2 c =
     let t = c.before in
     let d = t.before.before in
-    c.plain-then-words-lt-ROOM.ensures ∙ sym (room-refused _ _ _ (sym d.demand_ok.ensures ∙ not-false _ t.before.if-not-demand_ok.false) t.if-words-lt-ROOM.true)
+    c.plain-then-words-lt-ROOM.ensures ∙ sym (room-refused _ _ _ (sym d.demand_ok.ensures ∙ t.before.if-not-demand_ok.false) t.if-words-lt-ROOM.true)
 
 returns-3 : tie.Need-returns-then-count-needed
 returns-3 c =
     let t = c.before in
     let e = t.before.before in
-    c.plain-then-count-needed.ensures ∙ sym (few-refused _ _ _ (sym e.before.demand_ok.ensures ∙ not-false _ e.if-not-demand_ok.false) t.before.if-words-lt-ROOM.false t.if-count-needed.true)
+    c.plain-then-count-needed.ensures ∙ sym (few-refused _ _ _ (sym e.before.demand_ok.ensures ∙ e.if-not-demand_ok.false) t.before.if-words-lt-ROOM.false t.if-count-needed.true)
 
 returns-4 : tie.Need-returns
 returns-4 c =
     let e = c.before.before in
-    sym (demand-passed _ _ _ (sym e.before.demand_ok.ensures ∙ not-false _ e.if-not-demand_ok.false) c.before.if-words-lt-ROOM.false c.if-count-needed.false)
+    sym (demand-passed _ _ _ (sym e.before.demand_ok.ensures ∙ e.if-not-demand_ok.false) c.before.if-words-lt-ROOM.false c.if-count-needed.false)
 
 pub demand_outcome_spec : {M : Type 1} → statement M
 demand_outcome_spec = tie.close (tie.spec demand-ok-requires plain-requires returns plain-requires-2 returns-2 plain-requires-3 returns-3 returns-4)

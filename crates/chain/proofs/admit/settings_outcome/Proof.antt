@@ -15,7 +15,7 @@ abbrev start : tie.After-position_ok → tie.Start
 start c = c.before.before.before.before.before
 
 lens-in : (c : tie.Else-not-lens_ok) → lens_ok c.before.before.args.settings.lens ≡ true
-lens-in c = sym c.before.lens_ok.ensures ∙ not-false _ c.if-not-lens_ok.false
+lens-in c = sym c.before.lens_ok.ensures ∙ c.if-not-lens_ok.false
 
 centre-is : (c : tie.After-position_ok) → c.position_ok.result ≡ position_ok (start c).args.settings.cx (start c).args.settings.cy
 centre-is c =
@@ -34,7 +34,7 @@ plain-requires c κs = search rules
 returns : tie.Need-returns-then-not-lens_ok
 returns c =
     let o = c.before.before in
-    c.plain.ensures ∙ sym (lens-refused o.before.args.settings (sym o.lens_ok.ensures ∙ not-true _ c.before.if-not-lens_ok.true))
+    c.plain.ensures ∙ sym (lens-refused o.before.args.settings (sym o.lens_ok.ensures ∙ c.before.if-not-lens_ok.true))
 
 position-ok-requires : tie.Need-position_ok-requires
 position-ok-requires c κs = search rules
@@ -46,12 +46,12 @@ returns-2 : tie.Need-returns-then-not-position_ok
 returns-2 c =
     let o = c.before.before in
     c.plain-then-not-position_ok.ensures
-    ∙ sym (settings-refused (start o).args.settings (lens-in o.before.before.before) (sym (centre-is o) ∙ not-true _ c.before.if-not-position_ok.true))
+    ∙ sym (settings-refused (start o).args.settings (lens-in o.before.before.before) (sym (centre-is o) ∙ c.before.if-not-position_ok.true))
 
 returns-3 : tie.Need-returns
 returns-3 c =
     let o = c.before in
-    sym (settings-passed (start o).args.settings (lens-in o.before.before.before) (sym (centre-is o) ∙ not-false _ c.if-not-position_ok.false))
+    sym (settings-passed (start o).args.settings (lens-in o.before.before.before) (sym (centre-is o) ∙ c.if-not-position_ok.false))
 
 pub settings_outcome_spec : {M : Type 1} → statement M
 settings_outcome_spec =

@@ -13,11 +13,11 @@ use Rattle.search.proofs.refused.beside.Tie as tie
 
 -- past the first test the list is right, and past the second the needed count and the tolerance are
 listed : (c : tie.Else-not-list_ok) → list_ok c.before.before.before.args.directions.now ≡ true
-listed c = sym c.before.list_ok.ensures ∙ not-false _ c.if-not-list_ok.false
+listed c = sym c.before.list_ok.ensures ∙ c.if-not-list_ok.false
 
 demanded : (c : tie.Else-not-demand_ok) → demand_ok c.before.before.before.before.before.args.needed c.before.before.before.before.before.args.tolerance
     ≡ true
-demanded c = sym c.before.demand_ok.ensures ∙ not-false _ c.if-not-demand_ok.false
+demanded c = sym c.before.demand_ok.ensures ∙ c.if-not-demand_ok.false
 
 list-ok-requires : tie.Need-list_ok-requires
 list-ok-requires c κs = search rules
@@ -26,7 +26,7 @@ plain-requires : tie.Need-plain-requires
 plain-requires c κs = search rules
 
 returns : tie.Need-returns-then-not-list_ok
-returns c = c.plain.ensures ∙ sym (rejected.not_listed _ _ _ _ _ (sym c.before.before.list_ok.ensures ∙ not-true _ c.before.if-not-list_ok.true))
+returns c = c.plain.ensures ∙ sym (rejected.not_listed _ _ _ _ _ (sym c.before.before.list_ok.ensures ∙ c.before.if-not-list_ok.true))
 
 demand-ok-requires : tie.Need-demand_ok-requires
 demand-ok-requires c κs = search rules
@@ -38,7 +38,7 @@ returns-2 : tie.Need-returns-then-not-demand_ok
 returns-2 c =
     c.plain-then-not-demand_ok.ensures
     ∙ sym (rejected.not-in-range _ _ _ _ _ (listed c.before.before.before) (sym c.before.before.demand_ok.ensures
-    ∙ not-true _ c.before.if-not-demand_ok.true))
+    ∙ c.before.if-not-demand_ok.true))
 
 check-requires : tie.Need-check-judgement-requires
 check-requires c κs = (omega (arith, (ok-directions _ (listed c.before.before)).most), search rules)
