@@ -18,7 +18,7 @@ returns-2 : tie.Need-returns-in-1
 returns-2 c = let a = c.before.args in sym (by-pixels a.kind a.first a.second c.in-1.is)
 
 returns-3 : tie.Need-returns-in_default
-returns-3 c = let a = c.before.args in none_is ∙ sym (by-none a.kind a.first a.second ? ?)
+returns-3 c = let a = c.before.args in none_is ∙ sym (by-none a.kind a.first a.second c.in_default.in_default-own.rest.0.1 c.in_default.in_default-own.rest.1)
 
 pub stated_spec : {M : Type 1} → statement M
 stated_spec = tie.close (tie.spec returns returns-2 returns-3)
