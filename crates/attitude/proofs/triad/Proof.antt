@@ -26,12 +26,12 @@ module _ (s : tie.Start) where
 -- what the tests leave
 module _ (c : tie.In-Accepted) where
   abbrev start : tie.Start
-  start = c.before
+  start = c.before.before
 
   left :
       InRange start.args.v1 start.args.v2 start.args.w1 start.args.w2 ×
       ((2 ^ 30 ≤ largest_of (cross_of start.args.v1 start.args.v2)) × (2 ^ 30 ≤ largest_of (cross_of start.args.w1 start.args.w2)))
-  left = acceptable start.args.v1 start.args.v2 start.args.w1 start.args.w2 c.before.tested.ensures c.in-Accepted.is
+  left = acceptable start.args.v1 start.args.v2 start.args.w1 start.args.w2 c.tested.ensures c.in-Accepted.is
 
 tested-requires : tie.Need-tested-requires
 tested-requires c κs = search rules
@@ -58,9 +58,9 @@ product-requires c κs =
 returns : tie.Need-returns-in-Refused
 returns c =
     let told = c in
-    let s = told.before in
+    let s = told.before.before in
     let refused = c.in-Refused in
-    both s (by-refusal s.args.v1 s.args.v2 s.args.w1 s.args.w2 told.tested.ensures refused.1)
+    both s (by-refusal s.args.v1 s.args.v2 s.args.w1 s.args.w2 told.tested.ensures refused.is)
 
 returns-2 : tie.Need-returns-in-Accepted
 unfolding matrix_of
@@ -70,7 +70,7 @@ returns-2 c =
     let camera = c.before.before.axes_of-camera.ensures in
     let sky = c.before.axes_of-sky.ensures in
     let product = c.product.ensures ∙ (λ i. product_of (camera i) (sky i)) in
-    let found = by-acceptance s.args.v1 s.args.v2 s.args.w1 s.args.w2 o.before.tested.ensures o.in-Accepted.is in
+    let found = by-acceptance s.args.v1 s.args.v2 s.args.w1 s.args.w2 o.tested.ensures o.in-Accepted.is in
     both s (found ∙ ap (λ (m : Matrix). Found m) (sym product))
 
 pub triad_spec : {M : Type 1} → statement M

@@ -17,7 +17,7 @@ passed z = to_z w64 (of_z w64 z)
 -- a row of the matrix: a, b and c are a component of the camera's axes
 module _ (s : tie.Start) {a b c : ℤ} (i : Within 1000000000 a) (j : Within 1000000000 b) (k : Within 2000000000 c) where
   asked : Within 1000000000 (passed a) × (Within 1000000000 (passed b) × (Within 2000000000 (passed c) × AxesWithin s.args.sky))
-  asked = (near (arg i tt) tt, (near (arg j tt) tt, (near (arg k tt) tt, s.requires.1)))
+  asked = (near {w = w64} (arg i tt) tt, (near {w = w64} (arg j tt) tt, (near {w = w64} (arg k tt) tt, s.requires.1)))
 
   row_is : {r : Vec3} → r ≡ row_by (passed a) (passed b) (passed c) s.args.sky → r ≡ row_by a b c s.args.sky
   row_is e = e ∙ (λ l. row_by (back (arg {w = w64} i tt) l) (back (arg {w = w64} j tt) l) (back (arg {w = w64} k tt) l) s.args.sky)

@@ -24,7 +24,7 @@ module _ (s : tie.Start) {x y z : ℤ} (i : Within 1000000000 x) (j : Within 100
       (Within 1000000000 (passed x) × (Within 1000000000 (passed y) × Within 2000000000 (passed z)))))
   asked =
       let h = s.requires in
-      (near (arg h.0 tt) tt, (near (arg h.1.0 tt) tt, (near (arg h.1.1.0 tt) tt, (near (arg i tt) tt, (near (arg j tt) tt, near (arg k tt) tt)))))
+      (near {w = w64} (arg h.0 tt) tt, (near {w = w64} (arg h.1.0 tt) tt, (near {w = w64} (arg h.1.1.0 tt) tt, (near {w = w64} (arg i tt) tt, (near {w = w64} (arg j tt) tt, near {w = w64} (arg k tt) tt)))))
 
   entry-is :
       {r : ℤ} →

@@ -15,7 +15,7 @@ use Rattle.attitude.proofs.side.squares.Tie as tie
 -- the square of what `abs` gives
 square_le : {v : ℤ} {r : ℕ} → Within 1073741823 v → r ≡ nat_abs (to_z w64 (of_z w64 v)) → r * r ≤ 1073741823 * 1073741823
 square_le {v} {r} h e =
-    let k : r ≤ 1073741823 = subst (λ (n : ℕ). n ≤ 1073741823) (sym (e ∙ ap nat_abs (back (arg h tt)))) h.within in
+    let k : r ≤ 1073741823 = subst (λ (n : ℕ). n ≤ 1073741823) (sym (e ∙ ap nat_abs (back {w = w64} (arg h tt)))) h.within in
     mul-le-mul k k
 
 abs-requires : tie.Need-abs-x-requires
