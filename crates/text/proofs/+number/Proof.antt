@@ -39,41 +39,41 @@ large-wrote : {a b c : List ℕ} {at to end : ℕ} (n : ℕ) → 10 ≤ n → Wr
     → Wrote a at (decimal n) c end
 large-wrote n h p q = rw (decimal-large n h) (wrote_then p q)
 
-number-cast-byte : (t : ℕ) → number-lts.Need-overflow-cast-byte (byte-Reads.Asked, byte-Reads.Learnt, number-below t, number.Post) (number_at t) number.Post
+number-cast-byte : (t : ℕ) → number-lts.Need-overflow_cast-n (byte-Reads.Asked, byte-Reads.Learnt, number-below t, number.Post) (number_at t) number.Post
 number-cast-byte t c = omega arith
 
-number-add-byte : (t : ℕ) → number-lts.Need-overflow-add-byte (byte-Reads.Asked, byte-Reads.Learnt, number-below t, number.Post) (number_at t) number.Post
+number-add-byte : (t : ℕ) → number-lts.Need-overflow_add-n (byte-Reads.Asked, byte-Reads.Learnt, number-below t, number.Post) (number_at t) number.Post
 number-add-byte t c = omega arith
 
 number-byte-requires : (t : ℕ) → number-lts.Need-byte-requires (byte-Reads.Asked, byte-Reads.Learnt, number-below t, number.Post) (number_at t) number.Post
 number-byte-requires t c κs = search rules
 
-number-same-length : (t : ℕ) → number-lts.Need-same-length (byte-Reads.Asked, byte-Reads.Learnt, number-below t, number.Post) (number_at t) number.Post
+number-same-length : (t : ℕ) → number-lts.Need-shape_of-room-then-n-lt10 (byte-Reads.Asked, byte-Reads.Learnt, number-below t, number.Post) (number_at t) number.Post
 number-same-length t c = wrote-length c.before.before.byte.ensures
 
-number-returns : (t : ℕ) → number-lts.Need-returns (byte-Reads.Asked, byte-Reads.Learnt, number-below t, number.Post) (number_at t) number.Post
+number-returns : (t : ℕ) → number-lts.Need-returns-then-n-lt10 (byte-Reads.Asked, byte-Reads.Learnt, number-below t, number.Post) (number_at t) number.Post
 number-returns t c =
     let o = c.before.before in
     let s = o.before.before.before.before in
     let w = small-wrote s.args.n o.before.before.if-n-lt10.true o.byte.ensures in
     (w, bounded s.ranges.n w)
 
-number-number-requires : (t : ℕ) → number-lts.Need-number-requires (byte-Reads.Asked, byte-Reads.Learnt, number-below t, number.Post) (number_at t) number.Post
+number-number-requires : (t : ℕ) → number-lts.Need-number-next-requires (byte-Reads.Asked, byte-Reads.Learnt, number-below t, number.Post) (number_at t) number.Post
 number-number-requires t c κs = (omega arith, tt)
 
-number-cast-byte-2 : (t : ℕ) → number-lts.Need-overflow-cast-byte-2 (byte-Reads.Asked, byte-Reads.Learnt, number-below t, number.Post) (number_at t) number.Post
+number-cast-byte-2 : (t : ℕ) → number-lts.Need-overflow_cast-n-2 (byte-Reads.Asked, byte-Reads.Learnt, number-below t, number.Post) (number_at t) number.Post
 number-cast-byte-2 t c = omega arith
 
-number-add-byte-2 : (t : ℕ) → number-lts.Need-overflow-add-byte-2 (byte-Reads.Asked, byte-Reads.Learnt, number-below t, number.Post) (number_at t) number.Post
+number-add-byte-2 : (t : ℕ) → number-lts.Need-overflow_add-n-2 (byte-Reads.Asked, byte-Reads.Learnt, number-below t, number.Post) (number_at t) number.Post
 number-add-byte-2 t c = omega arith
 
 number-byte-requires-2 : (t : ℕ) → number-lts.Need-byte-requires-2 (byte-Reads.Asked, byte-Reads.Learnt, number-below t, number.Post) (number_at t) number.Post
 number-byte-requires-2 t c κs = search rules
 
-number-same-length-2 : (t : ℕ) → number-lts.Need-same-length-2 (byte-Reads.Asked, byte-Reads.Learnt, number-below t, number.Post) (number_at t) number.Post
+number-same-length-2 : (t : ℕ) → number-lts.Need-shape_of-room (byte-Reads.Asked, byte-Reads.Learnt, number-below t, number.Post) (number_at t) number.Post
 number-same-length-2 t c = let o = c.before.before in wrote-length o.byte-2.ensures ∙ wrote-length o.before.before.before.before.number-next.ensures.0
 
-number-returns-2 : (t : ℕ) → number-lts.Need-returns-2 (byte-Reads.Asked, byte-Reads.Learnt, number-below t, number.Post) (number_at t) number.Post
+number-returns-2 : (t : ℕ) → number-lts.Need-returns (byte-Reads.Asked, byte-Reads.Learnt, number-below t, number.Post) (number_at t) number.Post
 number-returns-2 t c =
     let o = c.before.before in
     let n = o.before.before.before.before in

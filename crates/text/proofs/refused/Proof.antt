@@ -6,23 +6,14 @@ use Rattle.text.specs.Refused.{refusal_line}
 use Rattle.text.proofs.refused.Statement.{statement}
 use Rattle.text.proofs.refused.Tie as tie
 
-slice-aggregate-labelled : tie.Need-slice-aggregate-labelled
-slice-aggregate-labelled c = search rules
-
 cast-labelled : tie.Need-overflow_cast-refusal
 cast-labelled c = search rules
 
 labelled-requires : tie.Need-labelled-number-requires
 labelled-requires c κs = search rules
 
-slice-aggregate-labelled-2 : tie.Need-slice-aggregate-labelled-2
-slice-aggregate-labelled-2 c = search rules
-
 labelled-requires-2 : tie.Need-labelled-place-requires
 labelled-requires-2 c κs = search rules
-
-slice-aggregate-word : tie.Need-slice-aggregate-word
-slice-aggregate-word c = search rules
 
 word-requires : tie.Need-word-requires
 word-requires c κs = search rules
@@ -44,12 +35,9 @@ pub refused_spec : {M : Type 1} → statement M
 refused_spec =
     tie.close
     (tie.spec
-    slice-aggregate-labelled
     cast-labelled
     labelled-requires
-    slice-aggregate-labelled-2
     labelled-requires-2
-    slice-aggregate-word
     word-requires
     same_length
     returns)

@@ -39,10 +39,8 @@ enum_told c = search rules
 
 returns-2 : tie.Need-returns-in_default invariant-loop decreases-loop
 returns-2 c =
-    let w : tie.After-with_digit-more invariant-loop decreases-loop = search rules in
-    let o : tie.In-loop-i invariant-loop decreases-loop = search rules in
-    let l = o.before.loop-i in
-    told _ (sym (l.inv.2 ∙ parsed-stop _ l.i l.value o.loop-i-test.taken (sym w.with_digit-more.ensures ∙ c.in_default.is)))
+    let l = c.loop-i in
+    told _ (sym (l.invariant.2 ∙ parsed-stop _ l.i l.value c.loop-i-test.true (sym c.with_digit-more.ensures ∙ c.in_default.is)))
 
 add-i : tie.Need-overflow_add-i invariant-loop decreases-loop
 add-i c = search rules
@@ -52,12 +50,9 @@ loop-less c = search rules
 
 loop-again : tie.Need-loop-i-preserved invariant-loop decreases-loop
 loop-again c =
-    let w : tie.After-with_digit-more invariant-loop decreases-loop = search rules in
-    let o : tie.In-loop-i invariant-loop decreases-loop = search rules in
-    let l = o.before.loop-i in
-    let more = parsed-next _ l.i l.value o.loop-i-test.true c.in-Number.field-0 (sym w.with_digit-more.ensures ∙ c.in-Number.is)
-    in
-    (omega (arith, o.loop-i-test.taken), more.0, l.inv.2 ∙ more.1)
+    let l = c.loop-i in
+    let more = parsed-next _ l.i l.value c.loop-i-test.true c.in-Number.v (sym c.with_digit-more.ensures ∙ c.in-Number.is) in
+    (omega (arith, c.loop-i-test.true), more.0, l.invariant.2 ∙ more.1)
 
 returns-3 : tie.Need-returns invariant-loop decreases-loop
 returns-3 c =

@@ -42,10 +42,10 @@ returns : tie.Need-returns-in_default
 returns c = search rules
 
 returns-2 : tie.Need-returns-then-n-gt-HALF
-returns-2 c = let k : tie.In-Number-2 = search rules in is k.in-Number.is (turned-far _ c.if-n-gt-HALF.true)
+returns-2 c = is c.in-Number.is (turned-far _ c.if-n-gt-HALF.true)
 
 returns-3 : tie.Need-returns-then-n-eq0
-returns-3 c = let k : tie.In-Number-2 = search rules in none k.in-Number.is c.if-n-eq0.true
+returns-3 c = none c.in-Number.is c.if-n-eq0.true
 
 sub-negative : tie.Need-overflow_sub-n
 sub-negative c = search rules
@@ -55,11 +55,8 @@ negative-requires c κs = search rules
 
 returns-4 : tie.Need-returns
 returns-4 c =
-    let w : tie.After-negative = search rules in
-    let d : tie.Else-n-eq0 = search rules in
-    let k : tie.In-Number-2 = search rules in
-    ap (λ (z : ℤ). Number z) (kept w64 w.negative.ok w.negative.ensures)
-    ∙ is k.in-Number.is (turned-near k.in-Number.field-0 (omega (arith, d.if-n-eq0.left)) d.before.if-n-gt-HALF.left)
+    ap (λ (z : ℤ). Number z) (kept w64 c.negative.type_inv c.negative.ensures)
+    ∙ is c.in-Number.is (turned-near c.in-Number.n (omega (arith, c.if-n-eq0.false)) c.if-n-gt-HALF.false)
 
 pub negative_spec : {M : Type 1} → statement M
 negative_spec =

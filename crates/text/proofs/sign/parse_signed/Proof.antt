@@ -22,10 +22,10 @@ shared-slice-read-if2 c = search rules
 sub-parse-number : tie.Need-slice_bounds-parse_number-count
 sub-parse-number c = search rules
 
-part-parse-number-start : tie.Need-slice-bounds-parse-number-start
+part-parse-number-start : tie.Need-slice_bounds-parse_number-start
 part-parse-number-start c = search rules
 
-part-parse-number-end : tie.Need-slice-bounds-parse-number-end
+part-parse-number-end : tie.Need-slice_bounds-parse_number-end
 part-parse-number-end c = search rules
 
 parse-number-requires : tie.Need-parse_number-size-requires
@@ -36,14 +36,10 @@ negative-requires c κs = search rules
 
 returns-2 : tie.Need-returns-then-word-eq45
 returns-2 c =
-    let p : tie.After-parse_number-size = search rules in
-    let i : tie.Then-word-eq45 = search rules in
-    let e : tie.Else-word-eq0 = search rules in
-    let a : tie.Start = search rules in
-    let word = a.args.word.now in
+    let word = c.args.word.now in
     let rest = take_all (length word - 1) (drop 1 word) (omega (arith, length-drop 1 word)) in
-    told _ (c.negative.ensures ∙ ap (λ (x : Parsed). negative_of x) (p.parse_number-size.ensures.0 ∙ ap parsed_of rest)
-    ∙ sym (minus-read word (omega (arith, e.if-word-eq0.left)) i.if-word-eq45.taken))
+    told _ (c.negative.ensures ∙ ap (λ (x : Parsed). negative_of x) (c.parse_number-size.ensures.0 ∙ ap parsed_of rest)
+    ∙ sym (minus-read word (omega (arith, c.if-word-eq0.false)) c.if-word-eq45.true))
 
 parse-number-requires-2 : tie.Need-parse_number-size-requires-2
 parse-number-requires-2 c κs = search rules
@@ -53,11 +49,8 @@ positive-requires c κs = search rules
 
 returns-3 : tie.Need-returns
 returns-3 c =
-    let p : tie.After-parse_number-size-2 = search rules in
-    let i : tie.Else-word-eq45 = search rules in
-    let e : tie.Else-word-eq0 = search rules in
-    told _ (c.positive.ensures ∙ ap (λ (x : Parsed). positive_of x) p.parse_number-size-2.ensures.0
-    ∙ sym (size-read _ (omega (arith, e.if-word-eq0.left)) i.if-word-eq45.left))
+    told _ (c.positive.ensures ∙ ap (λ (x : Parsed). positive_of x) c.parse_number-size-2.ensures.0
+    ∙ sym (size-read _ (omega (arith, c.if-word-eq0.false)) c.if-word-eq45.false))
 
 pub parse_signed_spec : {M : Type 1} → statement M
 parse_signed_spec =

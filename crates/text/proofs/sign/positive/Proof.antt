@@ -31,13 +31,13 @@ returns : tie.Need-returns-in_default
 returns c = search rules
 
 returns-2 : tie.Need-returns-then-n-ge-HALF
-returns-2 c = let k : tie.In-Number-2 = search rules in far k.in-Number.is c.if-n-ge-HALF.true
+returns-2 c = far c.in-Number.is c.if-n-ge-HALF.true
 
 cast-t4 : tie.Need-overflow_cast-result
 cast-t4 c = search rules
 
 returns-3 : tie.Need-returns
-returns-3 c = let k : tie.In-Number-2 = search rules in near k.in-Number.is c.if-n-ge-HALF.false
+returns-3 c = near c.in-Number.is c.if-n-ge-HALF.false
 
 pub positive_spec : {M : Type 1} → statement M
 positive_spec = tie.close (tie.spec enum-known-size enum_told returns returns-2 cast-t4 returns-3)
