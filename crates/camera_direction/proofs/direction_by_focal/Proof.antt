@@ -29,10 +29,10 @@ position-tested c =
     c.position_ok-2.ensures ∙ (λ i. position_ok (back (param f.x) i) (back (param f.y) i))
 
 centre-in : (c : tie.Else-not-position_ok) → position_ok c.before.before.args.cx c.before.before.args.cy ≡ true
-centre-in c = sym (centre-tested c.before) ∙ not-false _ c.if-not-position_ok.false
+centre-in c = sym (centre-tested c.before) ∙ c.if-not-position_ok.false
 
 position_in : (c : tie.Else-not-position_ok-2) → position_ok c.before.before.before.before.args.x c.before.before.before.before.args.y ≡ true
-position_in c = sym (position-tested c.before) ∙ not-false _ c.if-not-position_ok-2.false
+position_in c = sym (position-tested c.before) ∙ c.if-not-position_ok-2.false
 
 -- the numbers in their ranges
 centred : (c : tie.Else-not-position_ok-2) → Position c.before.before.before.before.args.cx c.before.before.before.before.args.cy
@@ -68,7 +68,7 @@ refused-requires c κs = search rules
 returns : tie.Need-returns-then-not-position_ok
 returns c =
     both c.before.before.before
-    (c.refused.ensures ∙ sym (centre-out _ _ _ _ _ (sym (centre-tested c.before.before) ∙ not-true _ c.before.if-not-position_ok.true)))
+    (c.refused.ensures ∙ sym (centre-out _ _ _ _ _ (sym (centre-tested c.before.before) ∙ c.before.if-not-position_ok.true)))
 
 position-ok-requires-2 : tie.Need-position_ok-requires-2
 position-ok-requires-2 c κs = search rules
@@ -79,7 +79,7 @@ refused-requires-2 c κs = search rules
 returns-2 : tie.Need-returns-then-not-position_ok-2
 returns-2 c =
     both c.before.before.before.before.before
-    (c.refused-then-not-position_ok-2.ensures ∙ sym (position-out _ _ _ _ _ (sym (position-tested c.before.before) ∙ not-true _ c.before.if-not-position_ok-2.true)))
+    (c.refused-then-not-position_ok-2.ensures ∙ sym (position-out _ _ _ _ _ (sym (position-tested c.before.before) ∙ c.before.if-not-position_ok-2.true)))
 
 sub-toward : tie.Need-overflow_sub-x
 sub-toward c = fits (X c)

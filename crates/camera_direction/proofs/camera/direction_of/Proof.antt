@@ -35,10 +35,10 @@ module _ (c : tie.In-Whole) where
   start = c.before.before
 
   abbrev given : ℤ
-  given = c.in-Whole.field-0
+  given = c.in-Whole.focal
 
   known : (lens_ok start.args.lens ≡ true) × (given ≡ pos (focal_number start.args.lens))
-  known = whole-given start.args.lens given (sym c.before.focal_of.ensures.0 ∙ c.in-Whole.is)
+  known = whole-given start.args.lens given (sym c.focal_of.ensures.0 ∙ c.in-Whole.is)
 
   given-between : Between 16384 4194304 given
   given-between = subst (Between 16384 4194304) (sym known.1) (focal-between start.args.lens known.0)
@@ -61,14 +61,14 @@ direction-by-focal-requires c κs = subst (Between 16384 4194304) (sym (back (F 
 returns : tie.Need-returns-in-Refused
 returns c =
     let s = c.before.before in
-    let k = refused-given s.args.lens c.in-Refused.field-0 (sym c.before.focal_of.ensures.0 ∙ c.in-Refused.is) in
+    let k = refused-given s.args.lens c.in-Refused.r (sym c.focal_of.ensures.0 ∙ c.in-Refused.is) in
     both s (ap (λ (r : Refusal). Refused r) k.1 ∙ sym (lens-out s.args.cx s.args.cy s.args.lens s.args.x s.args.y k.0))
 
 returns-2 : tie.Need-returns-in-Whole
 returns-2 c =
     let p = c.before in
     let s = start p in
-    let f = s.fits in
+    let f = s.ranges in
     both s
     (c.direction_by_focal.ensures.0
     ∙ (λ i. whole.direction_of (back (param f.cx) i) (back (param f.cy) i) ((back (F p) ∙ (known p).1) i) (back (param f.x) i) (back (param f.y) i))

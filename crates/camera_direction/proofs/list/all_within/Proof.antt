@@ -1,7 +1,6 @@
 -- `camera_direction::list::all_within` meets its contract. The loop's invariant: what the whole list comes to is what the numbers from k on come to. Assumes
 -- nothing.
 use borrow.Author.Rules.{rules}
-use borrow.Author.Tests.{not-true, not-false}
 use mathlib.Core.Path.{◌≡◌, refl, sym, ap, ◌∙◌}
 use Prim.Native.Nat.{◌-◌, ◌≤◌}
 use native.Mathlib.Omega.{arith}
@@ -22,7 +21,7 @@ abbrev decreases-loop : tie.decreases-loop-k
 decreases-loop v k₀ k = length v - k
 
 abbrev element : tie.After-within-arg-1 invariant-loop decreases-loop → Num w64
-element c = cast {w = w32} (held (get_or c.before.before.before.args.v.now c.before.before.loop-k.k (pos 0)) c.Within-arg.given) tt
+element c = cast {w = w32} (held (get_or c.before.before.before.args.v.now c.before.before.loop-k.k (pos 0)) c.within-arg-1.given) tt
 
 -- the test's outcome, of the number itself
 tested : (c : tie.After-within invariant-loop decreases-loop) → c.within.result ≡ leb
@@ -48,7 +47,7 @@ returns : tie.Need-returns-then-not-within invariant-loop decreases-loop
 returns c =
     let l = c.before.before.before.before.loop-k in
     let v = c.before.before.before.before.before.args.v.now in
-    sym (l.invariant.1 ∙ all-stop largest v l.k (omega arith) (sym (tested c.before) ∙ not-true _ c.if-not-within.true))
+    sym (l.invariant.1 ∙ all-stop largest v l.k (omega arith) (sym (tested c.before) ∙ c.if-not-within.true))
 
 add-k : tie.Need-overflow_add-k invariant-loop decreases-loop
 add-k c = search rules
@@ -60,7 +59,7 @@ loop-again : tie.Need-loop-k-preserved invariant-loop decreases-loop
 loop-again c =
     let l = c.before.before.before.before.loop-k in
     let v = c.before.before.before.before.before.args.v.now in
-    (omega arith, l.invariant.1 ∙ all-on largest v l.k (omega arith) (sym (tested c.before) ∙ not-false _ c.if-not-within.false))
+    (omega arith, l.invariant.1 ∙ all-on largest v l.k (omega arith) (sym (tested c.before) ∙ c.if-not-within.false))
 
 returns-2 : tie.Need-returns invariant-loop decreases-loop
 returns-2 c =

@@ -7,8 +7,8 @@ use borrow.Author.Rules.{rules}
 use Rattle.camera_direction.proofs.settings.position_ok.Statement.{statement}
 use Rattle.camera_direction.proofs.settings.position_ok.Tie as tie
 
-x-tested : (c : tie.After-place_ok) → c.Place-ok.result ≡ place_ok c.before.args.x
-x-tested c = c.Place-ok.ensures ∙ ap (λ (z : ℤ). place_ok z) (back (param c.before.ranges.x))
+x-tested : (c : tie.After-place_ok) → c.place_ok.result ≡ place_ok c.before.args.x
+x-tested c = c.place_ok.ensures ∙ ap (λ (z : ℤ). place_ok z) (back (param c.before.ranges.x))
 
 place-ok-requires : tie.Need-place_ok-requires
 place-ok-requires c κs = search rules
