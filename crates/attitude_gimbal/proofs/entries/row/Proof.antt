@@ -7,13 +7,13 @@ use Rattle.attitude_gimbal.proofs.entries.row.Statement.{statement}
 use Rattle.attitude_gimbal.proofs.entries.row.Tie as tie
 
 cosine-requires : tie.Need-cosine-requires
-cosine-requires c κs = near (arg c.before.before.before.requires.x tt) tt
+cosine-requires c κs = near {w = w64} (arg c.before.before.before.requires.x tt) tt
 
 cosine-requires-2 : tie.Need-cosine-requires-2
-cosine-requires-2 c κs = near (arg c.before.before.before.before.requires.y tt) tt
+cosine-requires-2 c κs = near {w = w64} (arg c.before.before.before.before.requires.y tt) tt
 
 cosine-requires-3 : tie.Need-cosine-requires-3
-cosine-requires-3 c κs = near (arg c.before.before.before.before.before.requires.z tt) tt
+cosine-requires-3 c κs = near {w = w64} (arg c.before.before.before.before.before.requires.z tt) tt
 
 returns : tie.Need-returns
 returns c =
