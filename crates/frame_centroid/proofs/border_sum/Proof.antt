@@ -24,10 +24,10 @@ sub-r c = search rules
 mul-r : tie.Need-offset_bounds-border-k invariant-loop decreases-loop
 mul-r c = search rules
 
-index-1-r : tie.Need-bounds-1-r invariant-loop decreases-loop
+index-1-r : tie.Need-bounds-border-k invariant-loop decreases-loop
 index-1-r c = search rules
 
-index-2-r : tie.Need-bounds-2-r invariant-loop decreases-loop
+index-2-r : tie.Need-bounds-border-0 invariant-loop decreases-loop
 index-2-r c = search rules
 
 add_r : tie.Need-overflow_add-r invariant-loop decreases-loop
@@ -40,10 +40,10 @@ sub-c c = search rules
 mul-c : tie.Need-offset_bounds-border-k-in-loop-k invariant-loop decreases-loop
 mul-c c = search rules
 
-index-1-c : tie.Need-bounds-1-c invariant-loop decreases-loop
+index-1-c : tie.Need-bounds-border-k-in-loop-k invariant-loop decreases-loop
 index-1-c c = search rules
 
-index-2-c : tie.Need-bounds-2-c invariant-loop decreases-loop
+index-2-c : tie.Need-bounds-border-1 invariant-loop decreases-loop
 index-2-c c = search rules
 
 add-c : tie.Need-overflow_add-c invariant-loop decreases-loop
