@@ -1,10 +1,10 @@
 -- `frame_list::input::frame_outcome` meets its contract: each answer is the first row that applies, by the tests passed on the way. Assumes nothing.
 use borrow.Author.Rules.{rules}
-use mathlib.Core.Bool.{true, false}
+use mathlib.Core.Bool.{true, false, not}
 use mathlib.Core.List.{[]}
-use mathlib.Core.Path.{◌≡◌, sym, ◌∙◌}
+use mathlib.Core.Path.{◌≡◌, sym, ap, ◌∙◌}
 use native.Mathlib.Omega.{arith}
-use borrow.Author.Tests.{not-true, not-false, lt-ltb, le-ltb, eq-eqb, ne_eqb}
+use borrow.Author.Tests.{lt-ltb, le-ltb, eq-eqb, ne_eqb}
 use Rattle.refusal.specs.declared.Outcome.{Outcome}
 use Rattle.refusal.specs.Answer.{accepted_with, answer_of}
 use Rattle.refusal.specs.Table.{first_applying}
@@ -15,10 +15,10 @@ use Rattle.frame_list.proofs.input.frame_outcome.Tie as tie
 
 -- the tests that the ways on have passed
 size-right : (c : tie.Else-not-size_ok) → let a = c.before.before.before.args in size_out a.width a.height ≡ false
-size-right c = sym c.before.Size-ok.ensures ∙ c.if-not-size_ok.false
+size-right c = sym c.size_ok.ensures ∙ ap not c.if-not-size_ok.false
 
 threshold-ok : (c : tie.Else-not-is_within) → within 1 4095 c.before.before.before.before.before.before.args.threshold ≡ true
-threshold-ok c = sym c.before.is_Within.ensures ∙ not-false _ c.if-not-is_within.false
+threshold-ok c = sym c.is_within.ensures ∙ c.if-not-is_within.false
 
 -- the second promise follows from the first
 told : (s : tie.Start) {o : Outcome} → let a = s.args in o ≡ first_applying (frame_rows a.samples.now a.width a.height a.threshold)
@@ -34,7 +34,7 @@ plain-requires c κs = search rules
 
 returns : tie.Need-returns-then-not-size_ok
 unfolding first_applying
-returns c = told c.before.before.before.before (rw (sym c.before.before.Size-ok.ensures ∙ c.before.if-not-size_ok.true) c.plain.ensures)
+returns c = told c.before.before.before.before (rw (sym c.size_ok.ensures ∙ ap not c.before.if-not-size_ok.true) c.plain.ensures)
 
 mul-if2 : tie.Need-overflow_mul-width
 mul-if2 c = let a = c.before.before.before.args in omega (arith, size-most a.width a.height (size-right c))
@@ -60,8 +60,7 @@ returns-3 c =
     told l.before.before.before.before (rw (
       size-right l.before,
       eq-eqb _ _ l.if-samples-width.false,
-      sym t.before.is_Within.ensures
-          ∙ not-true _ t.if-not-is_within.true,
+      sym t.is_within.ensures ∙ t.if-not-is_within.true,
     ) c.plain-then-not-is_within.ensures)
 
 first-over-requires : tie.Need-first_over-place-requires

@@ -54,7 +54,7 @@ returns-3 c =
     let a = c.before.before.before.args in
     let g = c.in-Refused in
     pixel-told a.samples.now a.width a.height a.threshold a.row a.column
-    (g.1 ∙ sym (pixel-refused a.samples.now a.width a.height a.threshold a.row a.column _ (sym o.ensures.0 ∙ g.1)))
+    (g.is ∙ sym (pixel-refused a.samples.now a.width a.height a.threshold a.row a.column _ (sym o.ensures.0 ∙ g.is)))
 
 returns-4 : tie.Need-returns-else-width-column
 returns-4 c =

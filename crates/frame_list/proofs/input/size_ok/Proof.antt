@@ -9,13 +9,13 @@ is-within-requires : tie.Need-is_within-requires
 is-within-requires c κs = search rules
 
 returns : tie.Need-returns-then-not-is_within
-returns c = rw (sym c.before.is_Within.ensures ∙ not-true _ c.if-not-is_within.true)
+returns c = rw (sym c.is_within.ensures ∙ c.if-not-is_within.true)
 
 is-within-requires-2 : tie.Need-is_within-requires-2
 is-within-requires-2 c κs = search rules
 
 returns-2 : tie.Need-returns
-returns-2 c = rw (sym c.before.before.is_Within.ensures ∙ not-false _ c.before.if-not-is_within.false, c.is_within-2.ensures)
+returns-2 c = rw (sym c.is_within.ensures ∙ c.before.if-not-is_within.false, c.is_within-2.ensures)
 
 pub size_ok_spec : {M : Type 1} → statement M
 size_ok_spec = tie.close (tie.spec is-within-requires returns is-within-requires-2 returns-2)
