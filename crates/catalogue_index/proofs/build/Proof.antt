@@ -29,14 +29,14 @@ abbrev start : tie.In-Count → tie.Start
 start c = c.before.before.before.before
 
 -- so many records: those of a valid catalogue
-valid : (c : tie.In-Count) → Valid (start c).args.catalogue.now × (c.in-Count.field-0 ≡ records_in (start c).args.catalogue.now)
-valid c = checked-valid _ _ (sym c.before.check-checked.ensures.0 ∙ c.in-Count.is)
+valid : (c : tie.In-Count) → Valid (start c).args.catalogue.now × (c.in-Count.n ≡ records_in (start c).args.catalogue.now)
+valid c = checked-valid _ _ (sym c.check-checked.ensures.0 ∙ c.in-Count.is)
 
 -- the slice that is handed on
-fits : (c : tie.After-stars-numbers) → 3 * c.before.in-Count.field-0 ≤ length c.stars-numbers.result
+fits : (c : tie.After-stars-numbers) → 3 * c.in-Count.n ≤ length c.stars-numbers.result
 fits c = lent-within _ _ _ c.stars-numbers.ensures (valid c.before).1 (valid c.before).0
 
-lent : (c : tie.After-stars-numbers) → take (3 * c.before.in-Count.field-0) c.stars-numbers.result ≡ stars_of (start c.before).args.catalogue.now
+lent : (c : tie.After-stars-numbers) → take (3 * c.in-Count.n) c.stars-numbers.result ≡ stars_of (start c.before).args.catalogue.now
 lent c = lent-stars _ _ _ c.stars-numbers.ensures (valid c.before).1 (valid c.before).0
 
 stars-requires : tie.Need-stars-numbers-requires
@@ -62,8 +62,8 @@ promised bytes floor before e f = let p = in-terms count_answer e (answers bytes
 
 returns : tie.Need-returns-in-Refused
 returns c =
-    let x = c.before.before.before.before.args in
-    let e = checked_refused _ _ (sym c.before.check-checked.ensures.0 ∙ c.in-Refused.is) in
+    let x = c.args in
+    let e = checked_refused _ _ (sym c.check-checked.ensures.0 ∙ c.in-Refused.is) in
     promised x.catalogue.now x.floor x.room.now (sym (catalogue-refused x.catalogue.now x.floor _ e (length x.room.now)))
     (sym (catalogue-kept x.catalogue.now x.floor _ e x.room.now))
 
@@ -77,11 +77,11 @@ returns-2 c =
     let s = start t.before in
     let x = s.args in
     let v = (valid t.before).0 in
-    let f = to_z-of_z w64 x.floor s.fits.floor in
+    let f = to_z-of_z w64 x.floor s.ranges.floor in
     promised x.catalogue.now x.floor x.room.now
-    (w.build_from.ensures.0 ∙ (λ i. built_from (lent t i) (f i) (length x.room.now))
+    (c.build_from.ensures.0 ∙ (λ i. built_from (lent t i) (f i) (length x.room.now))
     ∙ sym (valid-built x.catalogue.now x.floor v (length x.room.now)))
-    (w.build_from.ensures.1 ∙ (λ i. room_from (lent t i) (f i) x.room.now) ∙ sym (valid-room x.catalogue.now x.floor v x.room.now))
+    (c.build_from.ensures.1 ∙ (λ i. room_from (lent t i) (f i) x.room.now) ∙ sym (valid-room x.catalogue.now x.floor v x.room.now))
 
 pub build_spec : {M : Type 1} → statement M
 build_spec =

@@ -7,10 +7,10 @@ use Rattle.catalogue_index.specs.BuildLaws.{refused-from, kept_from, records-fro
 use Rattle.catalogue_index.proofs.build_from.Statement.{statement}
 use Rattle.catalogue_index.proofs.build_from.Tie as tie
 
-count-is : (c : tie.After-count-records) → let x = c.before.before.args in c.count-records.result ≡ length (keys_of x.stars.now x.floor)
+count-is : (c : tie.After-count-records) → let x = c.args in c.count-records.result ≡ length (keys_of x.stars.now x.floor)
 count-is c =
-    let x = c.before.before.args in
-    c.count-records.ensures.0 ∙ ap (λ (f : ℤ). length (keys_of x.stars.now f)) (to_z-of_z w64 x.floor c.before.before.ranges.floor)
+    let x = c.args in
+    c.count-records.ensures.0 ∙ ap (λ (f : ℤ). length (keys_of x.stars.now f)) (to_z-of_z w64 x.floor c.ranges.floor)
 
 count-requires : tie.Need-count-records-requires
 count-requires c κs = search rules
@@ -20,7 +20,7 @@ mul-if1 c = search rules
 
 returns : tie.Need-returns-then-room-records
 returns c =
-    let x = c.before.before.before.args in
+    let x = c.args in
     let h : length x.room.now < 12 * length (keys_of x.stars.now x.floor) = omega (arith, count-is c.before) in
     (sym (refused-from x.stars.now x.floor x.room.now h), sym (kept_from x.stars.now x.floor x.room.now h))
 
@@ -34,12 +34,11 @@ returns-2 : tie.Need-returns
 returns-2 c =
     let w = c.before.before in
     let k = w.before.before.before in
-    let s = k.before.before in
-    let x = s.args in
+    let x = c.args in
     let h : 12 * length (keys_of x.stars.now x.floor) ≤ length x.room.now = omega (arith, count-is k) in (
       ap Count (count-is k) ∙ sym (records-from x.stars.now x.floor x.room.now h),
-      w.write.ensures.1
-          ∙ ap (λ (f : ℤ). index_of x.stars.now f ++ drop (12 * length (keys_of x.stars.now f)) x.room.now) (to_z-of_z w64 x.floor s.ranges.floor)
+      c.write.ensures.1
+          ∙ ap (λ (f : ℤ). index_of x.stars.now f ++ drop (12 * length (keys_of x.stars.now f)) x.room.now) (to_z-of_z w64 x.floor c.ranges.floor)
           ∙ sym (written_from x.stars.now x.floor x.room.now h),
     )
 

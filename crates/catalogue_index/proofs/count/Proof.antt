@@ -16,8 +16,8 @@ count-requires c κs = search rules
 
 returns : tie.Need-returns
 returns c =
-    let x = c.before.before.args in
-    let e = c.before.raise.ensures ∙ ap raised (to_z-of_z w64 x.floor c.before.before.ranges.floor) in (
+    let x = c.args in
+    let e = c.raise.ensures ∙ ap raised (to_z-of_z w64 x.floor c.ranges.floor) in (
       c.count.ensures.0 ∙ ap (λ (f : ℕ). length (pairs_of x.stars.now f (triples x.stars.now))) e ∙ sym (keys_length x.stars.now x.floor),
       c.count.ensures.1,
     )

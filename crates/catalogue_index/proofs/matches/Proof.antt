@@ -14,10 +14,9 @@ is-index-requires c κs = search rules
 
 returns : tie.Need-returns
 returns c =
-    let s = c.before.before.before in
-    let x = s.args in
-    says-index c.is_index.result x.stars.now x.floor x.index.now c.before.raise.result
-    (c.before.raise.ensures ∙ ap raised (to_z-of_z w64 x.floor s.ranges.floor)) c.is_index.ensures
+    let x = c.args in
+    says-index c.is_index.result x.stars.now x.floor x.index.now c.raise.result
+    (c.raise.ensures ∙ ap raised (to_z-of_z w64 x.floor c.ranges.floor)) c.is_index.ensures
 
 pub matches_spec : {M : Type 1} → statement M
 matches_spec = tie.close (tie.spec raise-requires is-index-requires returns)

@@ -25,14 +25,13 @@ few stars floor n h = omega (arith, pairs-most stars floor n h)
 
 add-found : tie.Need-overflow_add-found invariant-loop decreases-loop
 add-found c =
-    let l = c.before.before in
-    let x = l.before.args in
+    let x = c.args in
     omega (
       arith,
-      l.before.requires.few,
+      c.requires.few,
       c.count_row-found.ensures,
-      length-next (row_of x.stars.now x.floor) l.loop-b.b,
-      few x.stars.now x.floor (l.loop-b.b + 1) (omega (arith, l.before.requires.few)),
+      length-next (row_of x.stars.now x.floor) c.loop-b.b,
+      few x.stars.now x.floor (c.loop-b.b + 1) (omega (arith, c.requires.few)),
     )
 
 add-b : tie.Need-overflow_add-b invariant-loop decreases-loop
@@ -43,18 +42,17 @@ loop-less c = search rules
 
 loop-again : tie.Need-loop-b-preserved invariant-loop decreases-loop
 loop-again c =
-    let l = c.before.before in
-    let x = l.before.args in
-    (omega arith, omega (arith, c.count_row-found.ensures, length-next (row_of x.stars.now x.floor) l.loop-b.b))
+    let x = c.args in
+    (omega arith, omega (arith, c.count_row-found.ensures, length-next (row_of x.stars.now x.floor) c.loop-b.b))
 
 returns : tie.Need-returns invariant-loop decreases-loop
 unfolding pairs_of
 returns c =
-    let l = c.before.loop-b in
-    let x = c.before.before.args in
+    let l = c.loop-b in
+    let x = c.args in
     let e : l.b ≡ triples x.stars.now = omega arith in (
       l.invariant.1 ∙ ap (λ (n : ℕ). length (collected n (row_of x.stars.now x.floor))) e,
-      omega (arith, few x.stars.now x.floor l.b (omega (arith, c.before.before.requires.few))),
+      omega (arith, few x.stars.now x.floor l.b (omega (arith, c.requires.few))),
     )
 
 pub count_spec : {M : Type 1} → statement M

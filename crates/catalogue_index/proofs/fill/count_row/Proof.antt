@@ -19,9 +19,8 @@ product-requires c κs = search rules
 
 add-count : tie.Need-overflow_add-count invariant-loop decreases-loop
 add-count c =
-    let l = c.before.before.before in
-    let x = l.before.args in
-    omega (arith, collected-most (entry_of x.stars.now x.floor x.b) 1 l.loop-a.a (λ i h. entry-most x.stars.now x.floor x.b i))
+    let x = c.args in
+    omega (arith, collected-most (entry_of x.stars.now x.floor x.b) 1 c.loop-a.a (λ i h. entry-most x.stars.now x.floor x.b i))
 
 add_a : tie.Need-overflow_add-a invariant-loop decreases-loop
 add_a c = search rules
@@ -31,22 +30,21 @@ loop-less c = search rules
 
 loop-again : tie.Need-loop-a-preserved invariant-loop decreases-loop
 loop-again c =
-    let p = c.before.product in
-    let l = c.before.before.before in
-    let x = l.before.args in
-    let n = length-next (entry_of x.stars.now x.floor x.b) l.loop-a.a in (
+    let p = c.product in
+    let x = c.args in
+    let n = length-next (entry_of x.stars.now x.floor x.b) c.loop-a.a in (
       omega arith,
       ⊎_elim
-          (λ w. omega (arith, ap length (entry-taken x.stars.now x.floor x.b l.loop-a.a (omega (arith, p.ensures, w.0.taken)))))
-          (λ w. omega (arith, ap length (entry-left x.stars.now x.floor x.b l.loop-a.a (omega (arith, p.ensures, w.0.left)))))
-          c.if-floor-product.branch,
+          (λ w. omega (arith, ap length (entry-taken x.stars.now x.floor x.b c.loop-a.a (omega (arith, p.ensures, w.if-floor-product.true)))))
+          (λ w. omega (arith, ap length (entry-left x.stars.now x.floor x.b c.loop-a.a (omega (arith, p.ensures, w.if-floor-product.false)))))
+          c.if-floor-product.branch-raw,
     )
 
 returns : tie.Need-returns invariant-loop decreases-loop
 unfolding row_of
 returns c =
-    let l = c.before.loop-a in
-    let x = c.before.before.args in
+    let l = c.loop-a in
+    let x = c.args in
     let e : l.a ≡ x.b = omega arith in
     l.invariant.1 ∙ ap (λ (n : ℕ). length (collected n (entry_of x.stars.now x.floor x.b))) e
 

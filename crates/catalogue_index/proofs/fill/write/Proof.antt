@@ -24,13 +24,11 @@ loop-holds c = (search rules, refl, none_more _ 0, grown-empty _ _ _)
 write-row-requires : tie.Need-write_row-next-requires invariant-loop decreases-loop
 unfolding pairs_of
 write-row-requires c κs =
-    let l = c.before.before in
-    let s = l.before.before in
-    let x = s.args in
+    let x = c.args in
     let f = row_of x.stars.now x.floor in
     let n = triples x.stars.now in
-    let r : 12 * length (collected n f) ≤ length x.room.now = s.requires.1 in
-    (s.requires.0, (omega arith, omega (arith, length-next f l.loop-b.b, collected-part f (l.loop-b.b + 1) n (omega arith))))
+    let r : 12 * length (collected n f) ≤ length x.room.now = c.requires.1 in
+    (c.requires.0, (omega arith, omega (arith, length-next f c.loop-b.b, collected-part f (c.loop-b.b + 1) n (omega arith))))
 
 add-b : tie.Need-overflow_add-b invariant-loop decreases-loop
 add-b c = search rules
@@ -40,14 +38,13 @@ loop-less c = search rules
 
 loop-again : tie.Need-loop-b-preserved invariant-loop decreases-loop
 loop-again c =
-    let w = c.before.before.write_row-next in
-    let l = c.before.before.before.before.before in
-    let x = l.before.before.args in
+    let w = c.write_row-next in
+    let x = c.args in
     let f = row_of x.stars.now x.floor in (
       omega arith,
-      w.auto.1.1.1.0 ∙ l.loop-b.invariant.1,
-      omega (arith, w.ensures.0, length-next f l.loop-b.b),
-      grown-next f l.loop-b.b l.loop-b.invariant.3 l.loop-b.invariant.2 w.ensures.1,
+      w.auto.room ∙ c.loop-b.invariant.1,
+      omega (arith, w.ensures.0, length-next f c.loop-b.b),
+      grown-next f c.loop-b.b c.loop-b.invariant.3 c.loop-b.invariant.2 w.ensures.1,
     )
 
 same_length : tie.Need-shape_of-room invariant-loop decreases-loop
@@ -56,8 +53,8 @@ same_length c = search rules
 returns : tie.Need-returns invariant-loop decreases-loop
 unfolding pairs_of
 returns c =
-    let l = c.before.loop-b in
-    let x = c.before.before.before.args in
+    let l = c.loop-b in
+    let x = c.args in
     let f = row_of x.stars.now x.floor in
     let e : l.b ≡ triples x.stars.now = omega arith in
     let g = ap (λ (n : ℕ). length (collected n f)) e in

@@ -9,25 +9,25 @@ use Rattle.catalogue_index.proofs.fill.write_pair.Statement.{statement}
 use Rattle.catalogue_index.proofs.fill.write_pair.Tie as tie
 
 -- the pair has a record
-has-entry : (c : tie.Else-product-floor) → let x = c.before.before.before.args in entry_of x.stars.now x.floor x.b x.a ≡ key_of x.stars.now x.a x.b
+has-entry : (c : tie.Else-product-floor) → let x = c.args in entry_of x.stars.now x.floor x.b x.a ≡ key_of x.stars.now x.a x.b
     ∷ []
 has-entry c =
-    let x = c.before.before.before.args in
-    entry-taken x.stars.now x.floor x.b x.a (omega (arith, c.before.product-product.ensures))
+    let x = c.args in
+    entry-taken x.stars.now x.floor x.b x.a (omega (arith, c.product-product.ensures))
 
 key-is : (c : tie.After-ends)
-    → let x = c.before.before.before.before.before.args in key_from c.before.before.before.product-product.result c.ends.result
+    → let x = c.args in key_from c.product-product.result c.ends.result
     ≡ key_of x.stars.now x.a x.b
 unfolding key_of
-key-is c = λ i. key_from (c.before.before.before.product-product.ensures i) (c.ends.ensures i)
+key-is c = λ i. key_from (c.product-product.ensures i) (c.ends.ensures i)
 
 product-requires : tie.Need-product-product-requires
 product-requires c κs = search rules
 
 returns : tie.Need-returns-then-product-floor
 returns c =
-    let x = c.before.before.before.args in
-    let e = entry-left x.stars.now x.floor x.b x.a (omega (arith, c.before.product-product.ensures)) in
+    let x = c.args in
+    let e = entry-left x.stars.now x.floor x.b x.a (omega (arith, c.product-product.ensures)) in
     (rw e (omega arith), rw e (grown-none _ _))
 
 ends-requires : tie.Need-ends-requires
@@ -44,10 +44,9 @@ same_length c = search rules
 
 returns-2 : tie.Need-returns
 returns-2 c =
-    let w = c.before.before.put in
+    let w = c.put in
     let f = c.before.before.before.before.before in
-    let s = f.before.before.before in
-    let x = s.args in
+    let x = c.args in
     let e = has-entry f in
     let l = ap length e in
     let g = grown-one x.at (key_of x.stars.now x.a x.b) x.room.now (omega arith) in

@@ -23,12 +23,10 @@ loop-holds c = (search rules, refl, none_more _ _, grown-empty _ _ _)
 write-pair-requires : tie.Need-write_pair-next-requires invariant-loop decreases-loop
 unfolding row_of
 write-pair-requires c κs =
-    let l = c.before.before in
-    let s = l.before.before in
-    let x = s.args in
+    let x = c.args in
     let f = entry_of x.stars.now x.floor x.b in
-    let r : 12 * (x.at + length (collected x.b f)) ≤ length x.room.now = s.requires.1.1 in
-    (s.requires.0, ((omega arith, s.requires.1.0), omega (arith, length-next f l.loop-a.a, collected-part f (l.loop-a.a + 1) x.b (omega arith))))
+    let r : 12 * (x.at + length (collected x.b f)) ≤ length x.room.now = c.requires.1.1 in
+    (c.requires.0, ((omega arith, c.requires.1.0), omega (arith, length-next f c.loop-a.a, collected-part f (c.loop-a.a + 1) x.b (omega arith))))
 
 add_a : tie.Need-overflow_add-a invariant-loop decreases-loop
 add_a c = search rules
@@ -38,14 +36,13 @@ loop-less c = search rules
 
 loop-again : tie.Need-loop-a-preserved invariant-loop decreases-loop
 loop-again c =
-    let w = c.before.before.write_pair-next in
-    let l = c.before.before.before.before.before in
-    let x = l.before.before.args in
+    let w = c.write_pair-next in
+    let x = c.args in
     let f = entry_of x.stars.now x.floor x.b in (
       omega arith,
-      w.auto.1.1.1.1.0 ∙ l.loop-a.invariant.1,
-      omega (arith, w.ensures.0, length-next f l.loop-a.a),
-      grown-next f l.loop-a.a l.loop-a.invariant.3 l.loop-a.invariant.2 w.ensures.1,
+      w.auto.room ∙ c.loop-a.invariant.1,
+      omega (arith, w.ensures.0, length-next f c.loop-a.a),
+      grown-next f c.loop-a.a c.loop-a.invariant.3 c.loop-a.invariant.2 w.ensures.1,
     )
 
 same_length : tie.Need-shape_of-room invariant-loop decreases-loop
@@ -54,8 +51,8 @@ same_length c = search rules
 returns : tie.Need-returns invariant-loop decreases-loop
 unfolding row_of
 returns c =
-    let l = c.before.loop-a in
-    let x = c.before.before.before.args in
+    let l = c.loop-a in
+    let x = c.args in
     let f = entry_of x.stars.now x.floor x.b in
     let e : l.a ≡ x.b = omega arith in
     (l.invariant.2 ∙ ap (λ (n : ℕ). x.at + length (collected n f)) e, subst (λ (n : ℕ). Grown x.at (collected n f) x.room.now l.room) e l.invariant.3)

@@ -12,7 +12,7 @@ raise-product-requires : tie.Need-raise_product-requires
 raise-product-requires c κs = search rules
 
 returns : tie.Need-returns
-returns c = c.raise_product.ensures ∙ ap raised (kept w64 c.before.pair_dot.type_inv c.before.pair_dot.ensures.0)
+returns c = c.raise_product.ensures ∙ ap raised (kept w64 c.pair_dot.type_inv c.pair_dot.ensures.0)
 
 pub product_spec : {M : Type 1} → statement M
 product_spec = tie.close (tie.spec pair-dot-requires raise-product-requires returns)

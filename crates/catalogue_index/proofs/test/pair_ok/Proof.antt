@@ -20,7 +20,7 @@ product-requires : tie.Need-product-product-requires
 product-requires c κs = search rules
 
 returns-3 : tie.Need-returns-then-product-floor
-returns-3 c = says-no (λ p. omega (arith, p.taken, p.is, c.if-product-floor.true, c.before.product-product.ensures))
+returns-3 c = says-no (λ p. omega (arith, p.taken, p.is, c.if-product-floor.true, c.product-product.ensures))
 
 turn-requires : tie.Need-turn-word-requires
 turn-requires c κs = search rules
@@ -30,27 +30,24 @@ cast-if4 c = search rules
 
 returns-4 : tie.Need-returns-then-top-word
 returns-4 c =
-    let t = c.before in
-    says-no (λ p. omega (arith, p.is, c.if-top-word.true, t.turn-word.ensures, t.before.before.product-product.ensures))
+    says-no (λ p. omega (arith, p.is, c.if-top-word.true, c.turn-word.ensures, c.product-product.ensures))
 
 cast-if5 : tie.Need-overflow_cast-word-2
 cast-if5 c = search rules
 
 returns-5 : tie.Need-returns-then-middle-word
 returns-5 c =
-    let t = c.before.before in
-    says-no (λ p. omega (arith, p.is, c.if-middle-word.true, t.turn-word.ensures, t.before.before.product-product.ensures))
+    says-no (λ p. omega (arith, p.is, c.if-middle-word.true, c.turn-word.ensures, c.product-product.ensures))
 
 returns-6 : tie.Need-returns
 returns-6 c =
-    let t = c.before.before in
-    let e = t.before.before.product-product.ensures in
+    let e = c.product-product.ensures in
     says-yes
     (record {
       order = omega arith;
       inside = omega arith;
-      taken = omega (arith, c.before.if-top-word.false, c.if-middle-word.false, t.turn-word.ensures, e);
-      is = omega (arith, c.before.if-top-word.false, c.if-middle-word.false, t.turn-word.ensures, e);
+      taken = omega (arith, c.if-top-word.false, c.if-middle-word.false, c.turn-word.ensures, e);
+      is = omega (arith, c.if-top-word.false, c.if-middle-word.false, c.turn-word.ensures, e);
     })
 
 pub pair_ok_spec : {M : Type 1} → statement M
