@@ -16,8 +16,8 @@ use Rattle.catalogue_cut.specs.CutSteps.{answers, catalogue-refused, catalogue-k
 use Rattle.catalogue_cut.proofs.cut.Statement.{statement}
 use Rattle.catalogue_cut.proofs.cut.Tie as tie
 
-valid : (c : tie.In_default) → Valid c.before.before.before.before.before.args.bytes.now
-valid c = (checked-valid _ _ (sym c.before.check-checked.ensures.0 ∙ c.in_default.is)).0
+valid : (c : tie.In_default) → Valid c.args.bytes.now
+valid c = (checked-valid _ _ (sym c.check-checked.ensures.0 ∙ c.in_default.is)).0
 
 -- the answer in the documents' terms follows from what is given
 promised : (bytes : List ℕ) (limit closeness : ℤ) {r : Counted} {after : List ℕ} → r ≡ shortened_of bytes limit closeness
@@ -36,9 +36,8 @@ same_length c = search rules
 
 returns : tie.Need-returns-in-Refused
 returns c =
-    let k = c.before in
-    let x = k.before.before.before.args in
-    let e = checked_refused _ _ (sym k.check-checked.ensures.0 ∙ c.in-Refused.is) in
+    let x = c.args in
+    let e = checked_refused _ _ (sym c.check-checked.ensures.0 ∙ c.in-Refused.is) in
     promised x.bytes.now x.limit x.closeness (sym (catalogue-refused x.bytes.now x.limit x.closeness _ e))
     (sym (catalogue-kept x.bytes.now x.limit x.closeness _ e))
 
@@ -55,13 +54,12 @@ returns-2 : tie.Need-returns
 returns-2 c =
     let w = c.before.before in
     let t = w.before.before in
-    let s = t.before.before.before.before.before in
-    let x = s.args in
-    let y = to_z-of_z w32 x.limit s.ranges.limit in
-    let z = to_z-of_z w64 x.closeness s.ranges.closeness in
+    let x = c.args in
+    let y = to_z-of_z w32 x.limit c.ranges.limit in
+    let z = to_z-of_z w64 x.closeness c.ranges.closeness in
     promised x.bytes.now x.limit x.closeness
-    (w.cut_valid.ensures.0 ∙ (λ i. shortened_from x.bytes.now (y i) (z i)) ∙ sym (valid-shortened x.bytes.now x.limit x.closeness (valid t)))
-    (w.cut_valid.ensures.1 ∙ (λ i. buffer_from x.bytes.now (y i) (z i)) ∙ sym (valid-buffer x.bytes.now x.limit x.closeness (valid t)))
+    (c.cut_valid.ensures.0 ∙ (λ i. shortened_from x.bytes.now (y i) (z i)) ∙ sym (valid-shortened x.bytes.now x.limit x.closeness (valid t)))
+    (c.cut_valid.ensures.1 ∙ (λ i. buffer_from x.bytes.now (y i) (z i)) ∙ sym (valid-buffer x.bytes.now x.limit x.closeness (valid t)))
 
 pub cut_spec : {M : Type 1} → statement M
 cut_spec =

@@ -18,14 +18,14 @@ use Rattle.catalogue_cut.proofs.cut_valid.Tie as tie
 
 -- the entry, from the place at which the records have moved
 abbrev start : tie.After-forward-kept → tie.Start
-start c = c.before.before.before.before.before.before
+start c = c.before.before.before.before.before
 
 -- the marks are those of the rule
-settled : (c : tie.After-forward-kept) → let x = (start c).args in Settled x.bytes.now x.limit x.closeness c.before.before.before.judge-marks.result
+settled : (c : tie.After-forward-kept) → let x = (start c).args in Settled x.bytes.now x.limit x.closeness c.judge-marks.result
 settled c =
     let s = start c in
-    settled-as (to_z-of_z w32 s.args.limit s.fits.limit) (to_z-of_z w64 s.args.closeness s.fits.closeness)
-    c.before.before.before.judge-marks.ensures
+    settled-as (to_z-of_z w32 s.args.limit s.ranges.limit) (to_z-of_z w64 s.args.closeness s.ranges.closeness)
+    c.judge-marks.ensures
 
 -- so many are kept
 count : (c : tie.After-forward-kept) → let x = (start c).args in c.forward-kept.result ≡ length (kept_in x.bytes.now x.limit x.closeness)
@@ -34,7 +34,7 @@ count c =
     c.forward-kept.ensures.0 ∙ ap length (marked-kept x.bytes.now x.limit x.closeness _ (settled c))
 
 -- and they stand at the front
-front : (c : tie.After-forward-kept) → let x = (start c).args in c.forward-kept.new.0 ≡ moved x.bytes.now x.limit x.closeness
+front : (c : tie.After-forward-kept) → let x = (start c).args in c.forward-kept.new.bytes ≡ moved x.bytes.now x.limit x.closeness
 front c =
     let x = (start c).args in
     c.forward-kept.ensures.1 ∙ moved-is x.bytes.now x.limit x.closeness _ (settled c)
@@ -74,7 +74,7 @@ mul-fill c =
 fill-requires : tie.Need-fill-requires
 fill-requires c κs =
     let f = c.before.before.before.before in
-    let h : record_size * f.forward-kept.result ≤ length f.forward-kept.new.0 = omega (arith, fits f, f.forward-kept.auto.0) in
+    let h : record_size * c.forward-kept.result ≤ length c.forward-kept.new.bytes = omega (arith, fits f, c.forward-kept.auto.bytes) in
     h
 
 same-length-2 : tie.Need-shape_of-bytes
@@ -87,11 +87,11 @@ returns-2 c =
     let f = t.before.before.before in
     let x = (start f).args in
     let n = count f in
-    let d : length (kept_in x.bytes.now x.limit x.closeness) ≡ 0 → ⊥ = λ z. t.if-kept-eq0.false (n ∙ z) in (
+    let d : length (kept_in x.bytes.now x.limit x.closeness) ≡ 0 → ⊥ = λ z. c.if-kept-eq0.false (n ∙ z) in (
       ap Count n ∙ sym (some-from x.bytes.now x.limit x.closeness d),
-      w.fill.ensures
-          ∙ (λ j. take (record_size * n j) (front f j) ++ replicate (length f.forward-kept.new.0 - record_size * n j) freed)
-          ∙ moved-filled x.bytes.now x.limit x.closeness (length f.forward-kept.new.0) f.forward-kept.auto.0
+      c.fill.ensures
+          ∙ (λ j. take (record_size * n j) (front f j) ++ replicate (length c.forward-kept.new.bytes - record_size * n j) freed)
+          ∙ moved-filled x.bytes.now x.limit x.closeness (length c.forward-kept.new.bytes) c.forward-kept.auto.bytes
           ∙ sym (some-buffer x.bytes.now x.limit x.closeness d),
     )
 

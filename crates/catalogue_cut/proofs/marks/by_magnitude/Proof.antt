@@ -33,17 +33,13 @@ magnitude-requires c κs = search rules
 
 returns : tie.Need-returns-then-magnitude-limit
 returns c =
-    let m = c.before in
-    let s = m.before.before in
-    says s.args.bytes.now s.args.i s.args.limit m.magnitude.result true s.requires m.magnitude.ensures
-    (tested_le (held {w = w32} m.magnitude.result m.magnitude.type_inv) (param s.ranges.limit) c.if-magnitude-limit.true)
+    says c.args.bytes.now c.args.i c.args.limit c.magnitude.result true c.requires c.magnitude.ensures
+    (tested_le (held {w = w32} c.magnitude.result c.magnitude.type_inv) (param c.ranges.limit) c.if-magnitude-limit.true)
 
 returns-2 : tie.Need-returns
 returns-2 c =
-    let m = c.before in
-    let s = m.before.before in
-    says s.args.bytes.now s.args.i s.args.limit m.magnitude.result false s.requires m.magnitude.ensures
-    (tested_le (held {w = w32} m.magnitude.result m.magnitude.type_inv) (param s.ranges.limit) c.if-magnitude-limit.false)
+    says c.args.bytes.now c.args.i c.args.limit c.magnitude.result false c.requires c.magnitude.ensures
+    (tested_le (held {w = w32} c.magnitude.result c.magnitude.type_inv) (param c.ranges.limit) c.if-magnitude-limit.false)
 
 pub by_magnitude_spec : {M : Type 1} → statement M
 by_magnitude_spec = tie.close (tie.spec magnitude-requires returns returns-2)

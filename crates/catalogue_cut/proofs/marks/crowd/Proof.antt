@@ -37,14 +37,14 @@ start c = c.before.before.before.before
 
 -- what is known of the pair, by the two stars' places
 met : (c : tie.After-meets invariant-loop decreases-loop)
-    → let l = c.before.before.before.loop-b in let x = (start c.before.before.before.before).args in
+    → let l = c.loop-b in let x = (start c.before.before.before.before).args in
     c.meets.result ≡ meets_by (to_z w64 (of_z w64 x.closeness)) (pair_dot x.stars.now x.a l.b) (get_or l.marks l.b 0)
 unfolding pair_dot
 met c =
-    let l = c.before.before.before.loop-b in
+    let l = c.loop-b in
     let t = c.before.before.before.before in
     let x = (start t).args in
-    c.meets.ensures ∙ (λ i. meets_by (to_z w64 (of_z w64 x.closeness)) (dot_of (t.triple_at-star.ensures i) (triple_at x.stars.now l.b))
+    c.meets.ensures ∙ (λ i. meets_by (to_z w64 (of_z w64 x.closeness)) (dot_of (c.triple_at-star.ensures i) (triple_at x.stars.now l.b))
     (get_or l.marks l.b 0))
 
 slice-read-if1 : tie.Need-bounds-marks-a invariant-loop decreases-loop
@@ -53,8 +53,7 @@ slice-read-if1 c = search rules
 -- src/judge.rt:64:9
 returns : tie.Need-returns-then-marks-a-eq-FAINT invariant-loop decreases-loop
 returns c =
-    let s = c.before.before.before in
-    λ bright J. judged-faint s.requires.1.0 J c.if-marks-a-eq-FAINT.true
+    λ bright J. judged-faint c.requires.1.0 J c.if-marks-a-eq-FAINT.true
 
 -- src/judge.rt:68:5
 triple-at-requires : tie.Need-triple_at-star-requires invariant-loop decreases-loop
@@ -63,7 +62,7 @@ triple-at-requires c κs = search rules
 loop-holds : tie.Need-loop-b-init invariant-loop decreases-loop
 loop-holds c =
     let s = start c in
-    (search rules, refl, (λ bright J. row-start s.requires.1.0 J c.before.if-marks-a-eq-FAINT.false))
+    (search rules, refl, (λ bright J. row-start s.requires.1.0 J c.if-marks-a-eq-FAINT.false))
 
 -- src/judge.rt:69:42
 slice-read-meets : tie.Need-bounds-marks-b invariant-loop decreases-loop
@@ -74,7 +73,7 @@ meets-requires : tie.Need-meets-requires invariant-loop decreases-loop
 meets-requires c κs =
     let t = c.before.before.before in
     let s = start t in
-    (s.requires.0, (rw t.triple_at-star.ensures (triple-within s.requires.0.near s.args.a), omega arith))
+    (s.requires.0, (rw c.triple_at-star.ensures (triple-within s.requires.0.near s.args.a), omega arith))
 
 -- src/judge.rt:70:13
 slice-write-marks : tie.Need-bounds-marks-b-then-meets invariant-loop decreases-loop
@@ -92,19 +91,19 @@ loop-less c = search rules
 loop-again : tie.Need-loop-b-preserved invariant-loop decreases-loop
 loop-again c =
     let m = c.before in
-    let l = m.before.before.before.loop-b in
+    let l = c.loop-b in
     let s = start m.before.before.before.before in
     let x = s.args in
     let e = sym (met m) in
     let h : l.b < x.a = omega arith in
     let n : l.b < length l.marks = omega arith in (
       omega arith,
-      ⊎_elim (λ w. ap length w.1 ∙ simp length-set l.invariant.1) (λ w. ap length w.1 ∙ l.invariant.1) c.if-meets.branch,
+      ⊎_elim (λ w. ap length w.marks-is ∙ simp length-set l.invariant.1) (λ w. ap length w.marks-is ∙ l.invariant.1) c.if-meets.branch-raw,
       λ bright J.
           ⊎_elim
-          (λ w. row_as w.2 w.1 (row-met s.requires.1.0 h (l.invariant.2 bright J) n (e ∙ w.0.taken)))
-          (λ w. row_as w.2 w.1 (row_apart s.requires.1.0 h (l.invariant.2 bright J) (e ∙ w.0.left)))
-          c.if-meets.branch,
+          (λ w. row_as w.own-is w.marks-is (row-met s.requires.1.0 h (l.invariant.2 bright J) n (e ∙ w.if-meets.true)))
+          (λ w. row_as w.own-is w.marks-is (row_apart s.requires.1.0 h (l.invariant.2 bright J) (e ∙ w.if-meets.false)))
+          c.if-meets.branch-raw,
     )
 
 -- src/judge.rt:75:5
@@ -118,10 +117,10 @@ same_length c = search rules
 -- src/judge.rt:58:1
 returns-2 : tie.Need-returns invariant-loop decreases-loop
 returns-2 c =
-    let l = c.before.loop-b in
+    let l = c.loop-b in
     let s = start c.before.before in
     let x = s.args in
-    let z = to_z-of_z w64 x.closeness s.fits.closeness in
+    let z = to_z-of_z w64 x.closeness s.ranges.closeness in
     let e : l.b ≡ x.a = omega arith in
     λ bright J.
     let K = subst (λ (v : ℤ). Judged bright x.stars.now v x.a x.marks.now) (sym z) J in

@@ -28,10 +28,9 @@ loop-holds c = (search rules, refl, (λ bright J. J))
 
 crowd-requires : tie.Need-crowd-requires invariant-loop decreases-loop
 crowd-requires c κs =
-    let l = c.before.before.loop-a in
-    let s = c.before.before.before.before in
-    let m : triples s.args.stars.now ≤ length l.marks = omega arith in
-    (s.requires.0, (omega arith, m))
+    let l = c.loop-a in
+    let m : triples c.args.stars.now ≤ length l.marks = omega arith in
+    (c.requires.0, (omega arith, m))
 
 add_a : tie.Need-overflow_add-a invariant-loop decreases-loop
 add_a c = search rules
@@ -41,19 +40,18 @@ loop-less c = search rules
 
 loop-again : tie.Need-loop-a-preserved invariant-loop decreases-loop
 loop-again c =
-    let w = c.before.before.crowd in
-    let l = c.before.before.before.before.before.loop-a in
-    (omega arith, w.auto.1.1.1.0 ∙ l.invariant.1, (λ bright J. w.ensures bright (l.invariant.2 bright J)))
+    let w = c.crowd in
+    let l = c.loop-a in
+    (omega arith, w.auto.marks ∙ l.invariant.1, (λ bright J. w.ensures bright (l.invariant.2 bright J)))
 
 same_length : tie.Need-shape_of-marks invariant-loop decreases-loop
 same_length c = search rules
 
 returns : tie.Need-returns invariant-loop decreases-loop
 returns c =
-    let l = c.before.loop-a in
-    let s = c.before.before.before in
-    let x = s.args in
-    let z = to_z-of_z w64 x.closeness s.ranges.closeness in
+    let l = c.loop-a in
+    let x = c.args in
+    let z = to_z-of_z w64 x.closeness c.ranges.closeness in
     let e : l.a ≡ triples x.stars.now = omega arith in
     λ bright J.
     let K = subst (λ (v : ℤ). Judged bright x.stars.now v 0 x.marks.now) (sym z) J in

@@ -24,8 +24,8 @@ abbrev start : tie.After-records-end → tie.Start
 start c = c.before.before.before.before
 
 -- the part of the array that is handed on is the stars
-lent : (c : tie.After-records-end) → take (3 * c.records-end.result) c.before.stars-numbers.result ≡ stars_of (start c).args.bytes.now
-lent c = lent-stars _ _ _ c.before.stars-numbers.ensures c.records-end.ensures (start c).requires
+lent : (c : tie.After-records-end) → take (3 * c.records-end.result) c.stars-numbers.result ≡ stars_of (start c).args.bytes.now
+lent c = lent-stars _ _ _ c.stars-numbers.ensures c.records-end.ensures (start c).requires
 
 magnitudes-requires : tie.Need-magnitudes-marks-requires
 magnitudes-requires c κs = search rules
@@ -45,7 +45,7 @@ array-share-prefix-numbers c = search rules
 slice-aggregate-crowd-all : tie.Need-slice_bounds-crowd_all-end
 slice-aggregate-crowd-all c =
     let r = c.before in
-    sym (length-take-le _ _ (lent-within _ _ _ r.before.stars-numbers.ensures r.records-end.ensures (start r).requires))
+    sym (length-take-le _ _ (lent-within _ _ _ c.stars-numbers.ensures c.records-end.ensures (start r).requires))
 
 slice-aggregate-crowd-all-2 : tie.Need-slice_bounds-crowd_all-end-2
 slice-aggregate-crowd-all-2 c = search rules
@@ -55,7 +55,7 @@ crowd-all-requires c κs =
     let r = c.before.before in
     let s = start r in
     let e = lent r in
-    let k : triples (take (3 * r.records-end.result) r.before.stars-numbers.result) ≤ length r.before.before.magnitudes-marks.result =
+    let k : triples (take (3 * c.records-end.result) c.stars-numbers.result) ≤ length c.magnitudes-marks.result =
     omega (arith, ap length e, star-count s.args.bytes.now s.requires, s.requires.size.most) in
     (subst (Listed 512) (sym e) (valid-listed s.args.bytes.now s.requires), k)
 
@@ -63,15 +63,15 @@ returns : tie.Need-returns
 returns c =
     let w = c.before in
     let r = w.before.before.before in
-    let m = r.before.before.magnitudes in
+    let m = c.magnitudes-marks in
     let s = start r in
     let x = s.args in
-    let y = to_z-of_z w32 x.limit s.fits.limit in
-    let z = to_z-of_z w64 x.closeness s.fits.closeness in
-    all_settled x.bytes.now s.requires x.limit x.closeness m.result w.crowd_all.new.1.1.0
+    let y = to_z-of_z w32 x.limit s.ranges.limit in
+    let z = to_z-of_z w64 x.closeness s.ranges.closeness in
+    all_settled x.bytes.now s.requires x.limit x.closeness m.result c.crowd_all.new.marks
     (λ k h. m.ensures k h ∙ ap (λ (v : ℤ). faint_mark (is_bright x.bytes.now v k)) y)
-    (subst (λ (v : ℤ). AllLooked (stars_of x.bytes.now) v m.result w.crowd_all.new.1.1.0) z
-    (subst (λ (l : List ℤ). AllLooked l (to_z w64 (of_z w64 x.closeness)) m.result w.crowd_all.new.1.1.0) (lent r) w.crowd_all.ensures))
+    (subst (λ (v : ℤ). AllLooked (stars_of x.bytes.now) v m.result c.crowd_all.new.marks) z
+    (subst (λ (l : List ℤ). AllLooked l (to_z w64 (of_z w64 x.closeness)) m.result c.crowd_all.new.marks) (lent r) c.crowd_all.ensures))
 
 pub judge_spec : {M : Type 1} → statement M
 judge_spec =

@@ -42,7 +42,7 @@ loop-less c = search rules
 
 loop-again : tie.Need-loop-i-preserved invariant-loop decreases-loop
 loop-again c =
-    let l = c.before.before.loop-i in
+    let l = c.loop-i in
     let h : l.i < length l.marks = omega arith in (
       omega arith,
       simp length-set l.invariant.1,
@@ -52,9 +52,8 @@ loop-again c =
 
 returns : tie.Need-returns invariant-loop decreases-loop
 returns c =
-    let s = c.before.before.before.before in
-    let z = to_z-of_z w32 s.args.limit s.ranges.limit in
-    λ k h. c.before.loop-i.invariant.2 k (omega arith) ∙ ap (λ (v : ℤ). faint_mark (is_bright s.args.bytes.now v k)) z
+    let z = to_z-of_z w32 c.args.limit c.ranges.limit in
+    λ k h. c.loop-i.invariant.2 k (omega arith) ∙ ap (λ (v : ℤ). faint_mark (is_bright c.args.bytes.now v k)) z
 
 pub magnitudes_spec : {M : Type 1} → statement M
 magnitudes_spec =

@@ -24,25 +24,22 @@ unfolding meets_by
 meets-bright closeness product mark d = rw (ne_eqb mark 2 d)
 
 returns : tie.Need-returns-then-mark-eq-FAINT
-returns c = let x = c.before.args in sym (meets-faint x.closeness _ x.mark c.if-mark-eq-FAINT.true)
+returns c = let x = c.args in sym (meets-faint x.closeness _ x.mark c.if-mark-eq-FAINT.true)
 
 triple-at-requires : tie.Need-triple_at-requires
 triple-at-requires c κs = search rules
 
 dot-requires : tie.Need-dot-requires
 dot-requires c κs =
-    let s = c.before.before in
-    let h : Within3 1000000000 c.triple_at.result = rw c.triple_at.ensures (triple-within s.requires.0.near s.args.b) in
-    (s.requires.1.0, h)
+    let h : Within3 1000000000 c.triple_at.result = rw c.triple_at.ensures (triple-within c.requires.0.near c.args.b) in
+    (c.requires.1.0, h)
 
 returns-2 : tie.Need-returns
 returns-2 c =
-    let t = c.before.before in
-    let s = t.before in
-    let x = s.args in
-    let p = back (param {w = w64} s.ranges.closeness) in
-    let q = back (arg {w = w64} c.dot.ensures.1 tt) ∙ c.dot.ensures.0 ∙ ap (dot_of x.star) c.before.triple_at.ensures in
-    (λ i. le_z (p i) (q i)) ∙ sym (meets-bright x.closeness _ x.mark t.if-mark-eq-FAINT.false)
+    let x = c.args in
+    let p = back (param {w = w64} c.ranges.closeness) in
+    let q = back (arg {w = w64} c.dot.ensures.1 tt) ∙ c.dot.ensures.0 ∙ ap (dot_of x.star) c.triple_at.ensures in
+    (λ i. le_z (p i) (q i)) ∙ sym (meets-bright x.closeness _ x.mark c.if-mark-eq-FAINT.false)
 
 pub meets_spec : {M : Type 1} → statement M
 meets_spec = tie.close (tie.spec returns triple-at-requires dot-requires returns-2)

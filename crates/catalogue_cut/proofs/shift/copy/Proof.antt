@@ -46,14 +46,13 @@ loop-less c = search rules
 
 loop-again : tie.Need-loop-k-preserved invariant-loop decreases-loop
 loop-again c =
-    let l = c.before.before.loop-k in
-    let s = c.before.before.before in
-    let x = s.args in
+    let l = c.loop-k in
+    let x = c.args in
     let from = record_size * x.i + l.k in (
       omega arith,
       simp length-set l.invariant.1,
       (λ j. set (l.invariant.2 j) (record_size * x.to + l.k) (get_or (l.invariant.2 j) from 0))
-          ∙ copied_next x.bytes.now x.i x.to s.requires.0 s.requires.1 l.k (omega arith),
+          ∙ copied_next x.bytes.now x.i x.to c.requires.0 c.requires.1 l.k (omega arith),
     )
 
 same_length : tie.Need-shape_of-bytes invariant-loop decreases-loop
@@ -61,11 +60,10 @@ same_length c = search rules
 
 returns : tie.Need-returns invariant-loop decreases-loop
 returns c =
-    let l = c.before.loop-k in
-    let s = c.before.before in
-    let x = s.args in
+    let l = c.loop-k in
+    let x = c.args in
     let e : l.k ≡ record_size = omega arith in
-    l.invariant.2 ∙ ap (copied x.bytes.now x.i x.to) e ∙ copied_all x.bytes.now x.i x.to s.requires.0 s.requires.1
+    l.invariant.2 ∙ ap (copied x.bytes.now x.i x.to) e ∙ copied_all x.bytes.now x.i x.to c.requires.0 c.requires.1
 
 pub copy_spec : {M : Type 1} → statement M
 copy_spec =

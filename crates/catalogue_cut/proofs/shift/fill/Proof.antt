@@ -37,12 +37,11 @@ loop-less c = search rules
 
 loop-again : tie.Need-loop-k-preserved invariant-loop decreases-loop
 loop-again c =
-    let l = c.before.loop-k in
-    let s = c.before.before in
-    let x = s.args in (
+    let l = c.loop-k in
+    let x = c.args in (
       omega arith,
       simp length-set l.invariant.1,
-      ap (λ (b : List ℕ). set b (x.from + l.k) freed) l.invariant.2 ∙ filled_next x.bytes.now x.from s.requires l.k (omega arith),
+      ap (λ (b : List ℕ). set b (x.from + l.k) freed) l.invariant.2 ∙ filled_next x.bytes.now x.from c.requires l.k (omega arith),
     )
 
 same_length : tie.Need-shape_of-bytes invariant-loop decreases-loop
@@ -50,11 +49,10 @@ same_length c = search rules
 
 returns : tie.Need-returns invariant-loop decreases-loop
 returns c =
-    let l = c.before.loop-k in
-    let s = c.before.before in
-    let x = s.args in
+    let l = c.loop-k in
+    let x = c.args in
     let e : l.k ≡ length x.bytes.now - x.from = omega arith in
-    l.invariant.2 ∙ ap (filled x.bytes.now x.from) e ∙ filled-all x.bytes.now x.from s.requires
+    l.invariant.2 ∙ ap (filled x.bytes.now x.from) e ∙ filled-all x.bytes.now x.from c.requires
 
 pub fill_spec : {M : Type 1} → statement M
 fill_spec =

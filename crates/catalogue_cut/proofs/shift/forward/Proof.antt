@@ -29,7 +29,7 @@ shared-slice-read-pass c = search rules
 
 pass-requires : tie.Need-pass-kept-requires invariant-loop decreases-loop
 pass-requires c κs =
-    let l = c.before.before.before.loop-i in
+    let l = c.loop-i in
     let h : l.i < records_in l.bytes = omega arith in
     (l.invariant.2.few, h)
 
@@ -41,17 +41,17 @@ loop-less c = search rules
 
 loop-again : tie.Need-loop-i-preserved invariant-loop decreases-loop
 loop-again c =
-    let w = c.before.before.pass in
-    let l = c.before.before.before.before.before.before.loop-i in
-    (omega arith, w.auto.0 ∙ l.invariant.1, moved-next l.invariant.2 (omega arith) w.ensures.0 w.ensures.1)
+    let w = c.pass-kept in
+    let l = c.loop-i in
+    (omega arith, w.auto.bytes ∙ l.invariant.1, moved-next l.invariant.2 (omega arith) w.ensures.0 w.ensures.1)
 
 same_length : tie.Need-shape_of-bytes invariant-loop decreases-loop
 same_length c = search rules
 
 returns : tie.Need-returns invariant-loop decreases-loop
 returns c =
-    let l = c.before.loop-i in
-    let x = c.before.before.before.before.before.before.args in
+    let l = c.loop-i in
+    let x = c.args in
     let e : l.i ≡ records_in x.bytes.now = omega arith in (
       l.invariant.2.is ∙ ap (λ (n : ℕ). length (marked x.marks.now n)) e,
       l.invariant.2.front ∙ ap (λ (n : ℕ). at_front (records_at x.bytes.now (marked x.marks.now n)) x.bytes.now) e,

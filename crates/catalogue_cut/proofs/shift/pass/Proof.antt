@@ -24,7 +24,7 @@ by-mark bytes i kept r after t mark e a b =
 
 returns : tie.Need-returns-then-mark-ne-KEPT
 returns c =
-    let x = c.before.before.args in
+    let x = c.args in
     by-mark x.bytes.now x.i x.kept x.kept x.bytes.now false x.mark (sym (ne_eqb x.mark 0 c.if-mark-ne-KEPT.true)) (omega arith) refl
 
 copy-requires : tie.Need-copy-requires
@@ -38,10 +38,8 @@ same_length c = search rules
 
 returns-2 : tie.Need-returns
 returns-2 c =
-    let w = c.before.before in
-    let t = w.before.before in
-    let x = t.before.before.args in
-    by-mark x.bytes.now x.i x.kept (x.kept + 1) w.copy.new.0 true x.mark (sym (eq-eqb x.mark 0 t.if-mark-ne-KEPT.false)) refl w.copy.ensures
+    let x = c.args in
+    by-mark x.bytes.now x.i x.kept (x.kept + 1) c.copy.new.bytes true x.mark (sym (eq-eqb x.mark 0 c.if-mark-ne-KEPT.false)) refl c.copy.ensures
 
 pub pass_spec : {M : Type 1} → statement M
 pass_spec = tie.close (tie.spec returns copy-requires add-result same_length returns-2)
