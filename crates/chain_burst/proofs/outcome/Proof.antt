@@ -11,11 +11,11 @@ use Rattle.chain_burst.proofs.outcome.Statement.{statement}
 use Rattle.chain_burst.proofs.outcome.Tie as tie
 
 -- the sides that the way on has passed
-size-right : (c : tie.Else-not-size_ok) → let a = c.before.before.args in size_out a.width a.height ≡ false
-size-right c = sym c.before.Size-ok.ensures ∙ c.if-not-size_ok.false
+size-right : (c : tie.Else-not-size_ok) → let a = c.args in size_out a.width a.height ≡ false
+size-right c = sym c.Size-ok.ensures ∙ c.if-not-size_ok.false
 
-some : (c : tie.Else-not-size_ok) → let a = c.before.before.args in 0 < a.width * a.height
-some c = let a = c.before.before.args in size-some a.width a.height (size-right c)
+some : (c : tie.Else-not-size_ok) → let a = c.args in 0 < a.width * a.height
+some c = let a = c.args in size-some a.width a.height (size-right c)
 
 size-ok-requires : tie.Need-size_ok-requires
 size-ok-requires c κs = search rules
@@ -24,10 +24,10 @@ plain-requires : tie.Need-plain-requires
 plain-requires c κs = search rules
 
 returns : tie.Need-returns-then-not-size_ok
-returns c = c.plain.ensures ∙ sym (size-refused _ _ _ _ (sym c.before.before.Size-ok.ensures ∙ c.before.if-not-size_ok.true))
+returns c = c.plain.ensures ∙ sym (size-refused _ _ _ _ (sym c.Size-ok.ensures ∙ c.if-not-size_ok.true))
 
 mul-size : tie.Need-overflow_mul-size
-mul-size c = let a = c.before.before.args in omega (arith, size-most a.width a.height (size-right c))
+mul-size c = let a = c.args in omega (arith, size-most a.width a.height (size-right c))
 
 rem-if2 : tie.Need-nonzero_rem-samples
 rem-if2 c = some c
@@ -36,10 +36,10 @@ plain-requires-2 : tie.Need-plain-requires-then-samples-size-ne0
 plain-requires-2 c κs = search rules
 
 returns-2 : tie.Need-returns-then-samples-size-ne0
-returns-2 c = c.plain-then-samples-size-ne0.ensures ∙ sym (part-refused _ _ _ _ (size-right c.before.before) c.before.if-samples-size-ne0.true)
+returns-2 c = c.plain-then-samples-size-ne0.ensures ∙ sym (part-refused _ _ _ _ (size-right c.before.before) c.if-samples-size-ne0.true)
 
 mul-if3 : tie.Need-overflow_mul-size-2
-mul-if3 c = let a = c.before.before.before.args in omega (arith, size-most a.width a.height (size-right c.before))
+mul-if3 c = let a = c.args in omega (arith, size-most a.width a.height (size-right c.before))
 
 plain-requires-3 : tie.Need-plain-requires-then-size-samples
 plain-requires-3 c κs = search rules
@@ -47,13 +47,13 @@ plain-requires-3 c κs = search rules
 returns-3 : tie.Need-returns-then-size-samples
 returns-3 c =
     let e = c.before.before in
-    c.plain-then-size-samples.ensures ∙ sym (many-refused _ _ _ _ (size-right e.before) e.if-samples-size-ne0.false c.before.if-size-samples.true)
+    c.plain-then-size-samples.ensures ∙ sym (many-refused _ _ _ _ (size-right e.before) c.if-samples-size-ne0.false c.if-size-samples.true)
 
 div-if4 : tie.Need-nonzero_div-samples
 div-if4 c = some c.before.before
 
 mul-if4 : tie.Need-overflow_mul-samples
-mul-if4 c = let a = c.before.before.before.before.args in omega (arith, frames-few (a.width * a.height) a.samples c.if-size-samples.false)
+mul-if4 c = let a = c.args in omega (arith, frames-few (a.width * a.height) a.samples c.if-size-samples.false)
 
 plain-requires-4 : tie.Need-plain-requires-then-records-samples
 plain-requires-4 c κs = search rules
@@ -62,13 +62,13 @@ returns-4 : tie.Need-returns-then-records-samples
 returns-4 c =
     let t = c.before.before in
     let e = t.before in
-    c.plain-then-records-samples.ensures ∙ sym (room-refused _ _ _ _ (size-right e.before) e.if-samples-size-ne0.false t.if-size-samples.false c.before.if-records-samples.true)
+    c.plain-then-records-samples.ensures ∙ sym (room-refused _ _ _ _ (size-right e.before) c.if-samples-size-ne0.false c.if-size-samples.false c.if-records-samples.true)
 
 returns-5 : tie.Need-returns
 returns-5 c =
     let t = c.before in
     let e = t.before in
-    sym (none-refused _ _ _ _ (size-right e.before) e.if-samples-size-ne0.false t.if-size-samples.false c.if-records-samples.false)
+    sym (none-refused _ _ _ _ (size-right e.before) c.if-samples-size-ne0.false c.if-size-samples.false c.if-records-samples.false)
 
 pub outcome_spec : {M : Type 1} → statement M
 outcome_spec =

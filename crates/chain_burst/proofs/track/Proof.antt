@@ -52,8 +52,8 @@ returns c =
     let k = c in
     let o = k.before in
     let w = whole o in
-    let e = sym o.outcome.ensures ∙ k.in-Refused.is in
-    let q = k.in-Refused.field-0 in
+    let e = sym c.outcome.ensures ∙ c.in-Refused.is in
+    let q = c.in-Refused.field-0 in
     let p = in-terms count_answer (sym (refused-answer w q e)) (answers w) in
     (p.0, (p.1, (sym (refused-records w q e), sym (refused-room w q e))))
 
@@ -70,7 +70,7 @@ returns-2 c =
     let w = whole (tested t) in
     let e = accepted t in
     let p = in-terms count_answer (sym (accepted-answer w e)) (answers w) in
-    (p.0, (p.1, (f.track_frames.ensures.1 ∙ sym (accepted-records w e), f.track_frames.ensures.0 ∙ sym (accepted-room w e))))
+    (p.0, (p.1, (c.track_frames.ensures.1 ∙ sym (accepted-records w e), c.track_frames.ensures.0 ∙ sym (accepted-room w e))))
 
 pub track_spec : {M : Type 1} → statement M
 track_spec =

@@ -29,19 +29,19 @@ abbrev start : tie.In-loop-k invariant-loop decreases-loop → tie.Start invaria
 start c = c.before.before.before.before.before.before
 
 -- a frame lies within the samples, and its record within the room
-fits : (c : tie.In-loop-k invariant-loop decreases-loop) → let a = (start c).args in c.before.loop-k.k * a.size + a.size ≤ length a.samples.now
+fits : (c : tie.In-loop-k invariant-loop decreases-loop) → let a = (start c).args in c.loop-k.k * a.size + a.size ≤ length a.samples.now
 fits c =
     let s = start c in
-    omega (arith, s.requires.whole, frame-fits s.args.size s.args.count c.before.loop-k.k (omega arith))
+    omega (arith, s.requires.whole, frame-fits s.args.size s.args.count c.loop-k.k (omega arith))
 
 -- the part that is lent is frame k
 lent : (c : tie.In-loop-k invariant-loop decreases-loop)
     → let a = (start c).args in
-    let from = c.before.loop-k.k * a.size in
-    take (from + a.size - from) (drop from a.samples.now) ≡ frame_at a.size a.samples.now c.before.loop-k.k
+    let from = c.loop-k.k * a.size in
+    take (from + a.size - from) (drop from a.samples.now) ≡ frame_at a.size a.samples.now c.loop-k.k
 lent c =
     let a = (start c).args in
-    let from = c.before.loop-k.k * a.size in
+    let from = c.loop-k.k * a.size in
     let e : from + a.size - from ≡ a.size = omega arith in
     ap (λ (n : ℕ). take n (drop from a.samples.now)) e
 
@@ -74,17 +74,17 @@ track-requires c κs = search rules
 mul-put : tie.Need-overflow_mul-k invariant-loop decreases-loop
 mul-put c =
     let l = c.before.before.before.before.before.before.before in
-    omega (arith, (start l).requires.room, l.before.loop-k.invariant.2)
+    omega (arith, (start l).requires.room, c.loop-k.invariant.2)
 
 put-requires : tie.Need-put-requires invariant-loop decreases-loop
 put-requires c κs =
     let t = c.before.before.before.before in
     let l = t.before.before.before in
     let a = (start l).args in
-    let single = call (take (l.before.loop-k.k * a.size + a.size - l.before.loop-k.k * a.size) (drop (l.before.loop-k.k * a.size) a.samples.now))
-    a.catalogue.now a.settings l.before.loop-k.room in (
-      omega (arith, (start l).requires.room, l.before.loop-k.invariant.2),
-      omega (arith, ap (λ (x : Tracked). (answer_of x.outcome).place) t.track-tracked.ensures.0, (tracked-low single).place),
+    let single = call (take (c.loop-k.k * a.size + a.size - c.loop-k.k * a.size) (drop (c.loop-k.k * a.size) a.samples.now))
+    a.catalogue.now a.settings c.loop-k.room in (
+      omega (arith, (start l).requires.room, c.loop-k.invariant.2),
+      omega (arith, ap (λ (x : Tracked). (answer_of x.outcome).place) c.track-tracked.ensures.0, (tracked-low single).place),
     )
 
 add-k : tie.Need-overflow_add-k invariant-loop decreases-loop
@@ -99,18 +99,18 @@ loop-again c =
     let t = p.before.before.before.before.before in
     let l = t.before.before.before in
     let a = (start l).args in
-    let k = l.before.loop-k.k in
-    let room = l.before.loop-k.room in
-    let records = l.before.loop-k.records in
+    let k = c.loop-k.k in
+    let room = c.loop-k.room in
+    let records = c.loop-k.records in
     let next = passed-more a.catalogue.now a.settings a.size a.samples.now a.room.now a.records.now k room records
-    (omega (arith, (start l).requires.room)) l.before.loop-k.invariant.3 in
-    let tracked = t.track-tracked.ensures.0 ∙ ap (λ (f : List ℕ). tracked_of (call f a.catalogue.now a.settings room)) (lent l) in (
+    (omega (arith, (start l).requires.room)) c.loop-k.invariant.3 in
+    let tracked = c.track-tracked.ensures.0 ∙ ap (λ (f : List ℕ). tracked_of (call f a.catalogue.now a.settings room)) (lent l) in (
       omega arith,
       search rules,
       search rules,
       record {
-        ranked = t.track-tracked.ensures.1.0 ∙ ap (λ (f : List ℕ). room_after (call f a.catalogue.now a.settings room)) (lent l) ∙ next.ranked;
-        written = p.put.ensures ∙ ap (λ (x : Tracked). sets records (80 * k) (record_bytes x)) tracked ∙ next.written;
+        ranked = c.track-tracked.ensures.1.0 ∙ ap (λ (f : List ℕ). room_after (call f a.catalogue.now a.settings room)) (lent l) ∙ next.ranked;
+        written = c.put.ensures ∙ ap (λ (x : Tracked). sets records (80 * k) (record_bytes x)) tracked ∙ next.written;
       },
     )
 
@@ -122,8 +122,8 @@ same-length-2 c = search rules
 
 returns : tie.Need-returns invariant-loop decreases-loop
 returns c =
-    let l = c.before.loop-k in
-    let a = c.before.before.before.before.before.before.args in
+    let l = c.loop-k in
+    let a = c.args in
     let e : l.k ≡ a.count = omega (arith, l.invariant.0) in
     let q = subst (λ (k : ℕ). Passed a.catalogue.now a.settings a.size a.samples.now a.room.now a.records.now k l.room l.records) e
     l.invariant.3 in

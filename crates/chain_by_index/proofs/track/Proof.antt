@@ -32,11 +32,11 @@ report-is : (t : tie.After-take_sights-sighting) → t.take_sights-sighting.resu
 report-is t = ap (λ (x : Sighting). x.report) t.take_sights-sighting.ensures
 
 -- the stars' own outcome, by the floor as it was handed in
-stars-is : (t : tie.After-take_sights-sighting) → let c = whole t in t.before.stars_outcome-stars.result
+stars-is : (t : tie.After-take_sights-sighting) → let c = whole t in t.stars_outcome-stars.result
     ≡ first_applying (stars_rows c.chain.catalogue c.index c.floor)
 stars-is t =
     let s = start t in
-    t.before.stars_outcome-stars.ensures ∙ ap (λ (f : ℤ). first_applying (stars_rows s.args.catalogue.now s.args.index.now f))
+    t.stars_outcome-stars.ensures ∙ ap (λ (f : ℤ). first_applying (stars_rows s.args.catalogue.now s.args.index.now f))
     (to_z-of_z w64 s.args.floor s.fits.floor)
 
 -- the code's outcome is that of the rows
@@ -92,12 +92,11 @@ same_length c = search rules
 
 returns-2 : tie.Need-returns-in-Accepted
 returns-2 c =
-    let l = c.before.before in
     let t : tie.After-take_sights-sighting = search rules in
     let o : tie.In-Accepted = search rules in
     let w = whole t in
     let h = outcome-is t o.in-Accepted.is in
-    let e = l.located.ensures in (
+    let e = c.located.ensures in (
       e.0 ∙ ap (λ (r : Report). located_of r w.chain.catalogue w.chain.settings) (report-is t) ∙ sym (accepted-tracked w h),
       e.1 ∙ ap (λ (r : Report). ranked_room r w.chain.catalogue w.chain.settings w.chain.room) (report-is t) ∙ sym (accepted-room w h),
     )

@@ -27,7 +27,7 @@ start c = c.before.before.before.before
 
 accepted : (c : tie.In-Accepted) → let a = (start c).args in rank_outcome_of a.directions.now a.catalogue.now a.tolerance a.room.now ≡ Accepted
 unfolding rank_outcome_of
-accepted c = sym c.before.first_refusal-outcome.ensures ∙ c.in-Accepted.is
+accepted c = sym c.first_refusal-outcome.ensures ∙ c.in-Accepted.is
 
 sound : (c : tie.In-Accepted) → let a = (start c).args in Sound a.directions.now a.catalogue.now a.tolerance (length a.room.now)
 unfolding rank_outcome_of
@@ -59,16 +59,16 @@ mul-end : tie.Need-overflow_mul-end
 mul-end c = search rules
 
 array-share-prefix-numbers : tie.Need-slice_bounds-numbers-end
-array-share-prefix-numbers c = lent-within _ _ _ c.before.stars-numbers.ensures c.records-end.ensures (sound c.before.before).catalogue
+array-share-prefix-numbers c = lent-within _ _ _ c.stars-numbers.ensures c.records-end.ensures (sound c.before.before).catalogue
 
 -- the slice that is handed on
-lent : (c : tie.After-numbers-1) → take (3 * c.before.records-end.result) c.before.before.stars-numbers.result
+lent : (c : tie.After-numbers-1) → take (3 * c.records-end.result) c.stars-numbers.result
     ≡ stars_of (start c.before.before.before).args.catalogue.now
-lent c = lent-stars _ _ _ c.before.before.stars-numbers.ensures c.before.records-end.ensures (sound c.before.before.before).catalogue
+lent c = lent-stars _ _ _ c.stars-numbers.ensures c.records-end.ensures (sound c.before.before.before).catalogue
 
 slice-aggregate-write-ranking : tie.Need-slice_bounds-write_ranking-end
 slice-aggregate-write-ranking c =
-    sym (length-take-le _ _ (lent-within _ _ _ c.before.before.stars-numbers.ensures c.before.records-end.ensures
+    sym (length-take-le _ _ (lent-within _ _ _ c.stars-numbers.ensures c.records-end.ensures
     (sound c.before.before.before).catalogue))
 
 -- directions x stars words, as the stars are counted
@@ -89,8 +89,8 @@ returns : tie.Need-returns-in-Refused
 unfolding rank_outcome_of
 returns c =
     let s = c.before.before.before.before in
-    let a = s.args in
-    let e = sym c.before.first_refusal-outcome.ensures ∙ c.in-Refused.is in
+    let a = c.args in
+    let e = sym c.first_refusal-outcome.ensures ∙ c.in-Refused.is in
     (sym e, (sym (room-kept a.directions.now a.catalogue.now a.tolerance a.room.now _ e), answer-is s (sym e)))
 
 same_length : tie.Need-shape_of-room
@@ -105,7 +105,7 @@ returns-2 c =
     let written : List ℤ → ℕ → List ℕ = λ stars m. ranking_of a.directions.now stars a.tolerance ++ drop m a.room.now in (
       sym (accepted t),
       (
-        w.write_ranking.ensures ∙ ap (λ (stars : List ℤ). written stars (triples a.directions.now * triples stars)) (lent n)
+        c.write_ranking.ensures ∙ ap (λ (stars : List ℤ). written stars (triples a.directions.now * triples stars)) (lent n)
             ∙ ap (written (stars_of a.catalogue.now)) (words t)
             ∙ sym (room-written a.directions.now a.catalogue.now a.tolerance a.room.now (accepted t)),
         answer-is (start t) (sym (accepted t)),

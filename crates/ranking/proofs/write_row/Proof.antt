@@ -23,11 +23,9 @@ same_length c = search rules
 
 returns : tie.Need-returns
 returns c =
-    let w = c.before.before in
-    let s = w.before.before.before.before.before in
-    let x = s.args in
-    w.write.ensures ∙ ap (λ (v : List ℕ). row_by v (length x.row.now)) w.before.before.before.votes_for-votes.ensures
-    ∙ row-by-counters x.directions.now x.stars.now x.tolerance x.i (length x.row.now) s.requires.1.1.1 s.requires.1.0.few
+    let x = c.args in
+    c.write.ensures ∙ ap (λ (v : List ℕ). row_by v (length x.row.now)) c.votes_for-votes.ensures
+    ∙ row-by-counters x.directions.now x.stars.now x.tolerance x.i (length x.row.now) c.requires.1.1.1 c.requires.1.0.few
 
 pub write_row_spec : {M : Type 1} → statement M
 write_row_spec =

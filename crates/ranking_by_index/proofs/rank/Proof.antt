@@ -40,13 +40,13 @@ start c = c.before.before.before.before.before
 
 -- so many records: those of a valid catalogue
 valid : (c : tie.In-Count) → Valid (start c).args.catalogue.now × (c.in-Count.field-0 ≡ records_in (start c).args.catalogue.now)
-valid c = checked-valid _ _ (sym c.before.check-checked.ensures.0 ∙ c.in-Count.is)
+valid c = checked-valid _ _ (sym c.check-checked.ensures.0 ∙ c.in-Count.is)
 
 -- the slice that is handed on
-fits : (c : tie.After-stars-numbers) → 3 * c.before.in-Count.field-0 ≤ length c.stars-numbers.result
+fits : (c : tie.After-stars-numbers) → 3 * c.in-Count.field-0 ≤ length c.stars-numbers.result
 fits c = lent-within _ _ _ c.stars-numbers.ensures (valid c.before).1 (valid c.before).0
 
-lent : (c : tie.After-stars-numbers) → take (3 * c.before.in-Count.field-0) c.stars-numbers.result ≡ stars_of (start c.before).args.catalogue.now
+lent : (c : tie.After-stars-numbers) → take (3 * c.in-Count.field-0) c.stars-numbers.result ≡ stars_of (start c.before).args.catalogue.now
 lent c = lent-stars _ _ _ c.stars-numbers.ensures (valid c.before).1 (valid c.before).0
 
 abbrev whole : tie.Start → Call
@@ -75,7 +75,7 @@ promised c e f = let p = in-terms answer_of e (answers c) in (p.0, (f, p.1))
 returns : tie.Need-returns-in-Refused
 returns c =
     let s = c.before.before.before.before.before in
-    let e = joined (whole s) (checked_refused _ _ (sym c.before.check-checked.ensures.0 ∙ c.in-Refused.is)) in
+    let e = joined (whole s) (checked_refused _ _ (sym c.check-checked.ensures.0 ∙ c.in-Refused.is)) in
     promised (whole s) (sym e) (sym (refused-room (whole s) _ e))
 
 same_length : tie.Need-shape_of-room
@@ -90,9 +90,9 @@ returns-2 c =
     let v = (valid t.before).0 in
     let f = to_z-of_z w64 x.floor s.fits.floor in
     promised (whole s)
-    (w.rank_from.ensures.0 ∙ (λ i. outcome_from x.directions.now (lent t i) x.index.now (f i) x.tolerance (length x.room.now))
+    (c.rank_from.ensures.0 ∙ (λ i. outcome_from x.directions.now (lent t i) x.index.now (f i) x.tolerance (length x.room.now))
     ∙ sym (valid-outcome (whole s) v))
-    (w.rank_from.ensures.1 ∙ (λ i. room_from x.directions.now (lent t i) x.index.now (f i) x.tolerance x.room.now)
+    (c.rank_from.ensures.1 ∙ (λ i. room_from x.directions.now (lent t i) x.index.now (f i) x.tolerance x.room.now)
     ∙ sym (valid-room (whole s) v))
 
 pub rank_spec : {M : Type 1} → statement M

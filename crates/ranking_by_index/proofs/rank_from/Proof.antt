@@ -34,7 +34,7 @@ returns c =
     let d = c.before.before in
     let a = (start d).args in
     let e = wrong-from a.directions.now a.stars.now a.index.now a.floor a.tolerance (length a.room.now)
-    (sym (tested d) ∙ not-true d.matches.result c.before.if-not-matches.true) in
+    (sym (tested d) ∙ not-true c.matches.result c.if-not-matches.true) in
     (c.plain.ensures ∙ sym e, sym (refused-from a.directions.now a.stars.now a.index.now a.floor a.tolerance a.room.now _ e))
 
 rank-right-requires : tie.Need-rank_right-requires
@@ -43,7 +43,7 @@ rank-right-requires c κs =
     let s = start d in
     let a = s.args in (
       s.requires,
-      index-true a.stars.now a.floor a.index.now (sym (tested d) ∙ not-false d.matches.result c.before.if-not-matches.false)
+      index-true a.stars.now a.floor a.index.now (sym (tested d) ∙ not-false c.matches.result c.if-not-matches.false)
           ∙ ap (index_of a.stars.now) (sym (to_z-of_z w64 s.args.floor s.fits.floor)),
     )
 
@@ -55,9 +55,9 @@ returns-2 c =
     let w = c.before.before in
     let s = start w.before.before.before in
     let a = s.args in (
-      w.rank_right.ensures.0 ∙ ap (λ (f : ℤ). outcome_from a.directions.now a.stars.now a.index.now f a.tolerance (length a.room.now))
+      c.rank_right.ensures.0 ∙ ap (λ (f : ℤ). outcome_from a.directions.now a.stars.now a.index.now f a.tolerance (length a.room.now))
           (to_z-of_z w64 s.args.floor s.fits.floor),
-      w.rank_right.ensures.1 ∙ ap (λ (f : ℤ). room_from a.directions.now a.stars.now a.index.now f a.tolerance a.room.now)
+      c.rank_right.ensures.1 ∙ ap (λ (f : ℤ). room_from a.directions.now a.stars.now a.index.now f a.tolerance a.room.now)
           (to_z-of_z w64 s.args.floor s.fits.floor),
     )
 

@@ -33,7 +33,7 @@ start t = t.before.before.before.before
 
 accepted : (t : tie.In-Accepted) → let a = (start t).args in first_applying
     (rows_beside a.directions.now (triples a.stars.now) a.tolerance (length a.room.now)) ≡ Accepted
-accepted t = sym t.before.beside-outcome.ensures ∙ t.in-Accepted.is
+accepted t = sym t.beside-outcome.ensures ∙ t.in-Accepted.is
 
 sound : (t : tie.In-Accepted) → let a = (start t).args in
     Directions a.directions.now × (a.tolerance ≤ 10000000000000000) × (directions_in a.directions.now * triples a.stars.now ≤ length a.room.now)
@@ -77,9 +77,9 @@ returns : tie.Need-returns-in-Refused
 returns c =
     let b = c.before in
     let s = b.before.before.before in
-    let a = s.args in
+    let a = c.args in
     let e = right-from a.directions.now a.stars.now a.index.now a.floor a.tolerance (length a.room.now) (right s)
-    ∙ sym b.beside-outcome.ensures ∙ c.in-Refused.is in
+    ∙ sym c.beside-outcome.ensures ∙ c.in-Refused.is in
     (sym e, sym (refused-from a.directions.now a.stars.now a.index.now a.floor a.tolerance a.room.now _ e))
 
 same_length : tie.Need-shape_of-room
@@ -91,7 +91,7 @@ returns-2 c =
     let t = w.before.before.before in
     let a = (start t).args in (
       sym (outcome-is t),
-      w.write_ranking.ensures ∙ sym (written_from a.directions.now a.stars.now a.index.now a.floor a.tolerance
+      c.write_ranking.ensures ∙ sym (written_from a.directions.now a.stars.now a.index.now a.floor a.tolerance
           a.room.now (outcome-is t)),
     )
 

@@ -21,10 +21,9 @@ decreases-loop directions stars tolerance index floor room₀ count words i₀ r
 
 -- a row has room
 fits : (c : tie.In-loop-i invariant-loop decreases-loop)
-    → let n = triples c.before.before.before.before.args.stars.now in c.before.loop-i.i * n + n ≤ length c.before.loop-i.room
+    → let n = triples c.args.stars.now in c.loop-i.i * n + n ≤ length c.loop-i.room
 fits c =
-    let s = c.before.before.before.before in
-    omega (arith, s.requires.1.1.0, row_fits (triples s.args.directions.now) (triples s.args.stars.now) c.before.loop-i.i (omega arith))
+    omega (arith, c.requires.1.1.0, row_fits (triples c.args.directions.now) (triples c.args.stars.now) c.loop-i.i (omega arith))
 
 loop-holds : tie.Need-loop-i-init invariant-loop decreases-loop
 loop-holds c = (search rules, refl, rows_none _ _ _ _)
@@ -49,12 +48,11 @@ part-write-row-end c = omega (arith, fits c)
 
 write-row-requires : tie.Need-write_row-requires invariant-loop decreases-loop
 write-row-requires c κs =
-    let s = c.before.before.before.before.before in
-    let m = triples s.args.stars.now in
+    let m = triples c.args.stars.now in
     let f = fits c.before in
-    let n = c.before.before.loop-i.i * m in
+    let n = c.loop-i.i * m in
     let k : n + m - n ≡ m = omega arith in
-    (s.requires.0, (s.requires.1.0, ((search rules, mid-length c.before.before.loop-i.room n (n + m - n) (omega arith) ∙ k), s.requires.1.1.1)))
+    (c.requires.0, (c.requires.1.0, ((search rules, mid-length c.loop-i.room n (n + m - n) (omega arith) ∙ k), c.requires.1.1.1)))
 
 add-i : tie.Need-overflow_add-i invariant-loop decreases-loop
 add-i c = search rules
@@ -64,26 +62,25 @@ loop-less c = search rules
 
 loop-again : tie.Need-loop-i-preserved invariant-loop decreases-loop
 loop-again c =
-    let p = c.before.before.before.before.before in
-    let a = p.before.before.before.args in
+    let a = c.args in
     let m = triples a.stars.now in
     let f = fits c.before.before.before.before in
-    let n = p.loop-i.i * m in
-    let w = c.before.before.write_row in (
+    let n = c.loop-i.i * m in
+    let w = c.write_row in (
       omega arith,
-      back-length p.loop-i.room w.new.1.1.1.1.1.1.0 n (n + m - n) (omega arith) w.auto.1.1.1.1.1.1.0 ∙ p.loop-i.invariant.1,
-      rows_more a.directions.now a.stars.now a.tolerance a.room.now p.loop-i.room w.new.1.1.1.1.1.1.0 p.loop-i.i p.loop-i.invariant.2
+      back-length c.loop-i.room w.new.1.1.1.1.1.1.0 n (n + m - n) (omega arith) w.auto.1.1.1.1.1.1.0 ∙ c.loop-i.invariant.1,
+      rows_more a.directions.now a.stars.now a.tolerance a.room.now c.loop-i.room w.new.1.1.1.1.1.1.0 c.loop-i.i c.loop-i.invariant.2
           w.ensures,
     )
 
 same_length : tie.Need-shape_of-room invariant-loop decreases-loop
-same_length c = c.before.loop-i.invariant.1
+same_length c = c.loop-i.invariant.1
 
 returns : tie.Need-returns invariant-loop decreases-loop
 unfolding ranking_of
 returns c =
-    let p = c.before.loop-i in
-    let a = c.before.before.before.before.args in
+    let p = c.loop-i in
+    let a = c.args in
     let e : p.i ≡ triples a.directions.now = omega arith in
     subst (λ (i : ℕ). p.room ≡ rows_of a.directions.now a.stars.now a.tolerance i ++ drop (i * triples a.stars.now) a.room.now) e p.invariant.2
 

@@ -20,8 +20,7 @@ enum-known-outcome c = search rules
 
 cast-put-parts : tie.Need-overflow_cast-r
 cast-put-parts c =
-    let o = c.before.before in
-    record { fits = subst (λ (x : Outcome). (answer_of x).place < 4294967296) o.in-Refused.is o.before.before.requires.1 }
+    record { fits = subst (λ (x : Outcome). (answer_of x).place < 4294967296) c.in-Refused.is c.requires.1 }
 
 put-parts-requires-2 : tie.Need-put_parts-requires-in-Refused
 put-parts-requires-2 c κs = search rules
@@ -31,20 +30,16 @@ same_length c = search rules
 
 returns : tie.Need-returns-in-Accepted
 returns c =
-    let p = c.before.before in
-    let t = p.before.before in
-    let a = t.before.before.args in
-    p.put_parts.ensures ∙ ap (λ (o : Outcome). sets a.room.now a.at (encoded (record_of o a.matrix))) (sym t.in-Accepted.is)
+    let a = c.args in
+    c.put_parts.ensures ∙ ap (λ (o : Outcome). sets a.room.now a.at (encoded (record_of o a.matrix))) (sym c.in-Accepted.is)
 
 same-length-2 : tie.Need-shape_of-room-in-Refused
 same-length-2 c = search rules
 
 returns-2 : tie.Need-returns-in-Refused
 returns-2 c =
-    let p = c.before.before in
-    let t = p.before.before.before in
-    let a = t.before.before.args in
-    p.put_parts-in-Refused.ensures ∙ ap (λ (o : Outcome). sets a.room.now a.at (encoded (record_of o a.matrix))) (sym t.in-Refused.is)
+    let a = c.args in
+    c.put_parts-in-Refused.ensures ∙ ap (λ (o : Outcome). sets a.room.now a.at (encoded (record_of o a.matrix))) (sym c.in-Refused.is)
 
 pub put_spec : {M : Type 1} → statement M
 put_spec =

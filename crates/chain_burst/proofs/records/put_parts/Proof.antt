@@ -42,20 +42,15 @@ same_length c = search rules
 
 returns : tie.Need-returns
 returns c =
-    let fifth = c.before.before in
-    let fourth = fifth.before.before.before.before in
-    let third = fourth.before.before.before.before in
-    let second = third.before.before.before.before in
-    let first = second.before.before.before.before in
-    let a = first.before.before.before.before.before.before.args in
+    let a = c.args in
     let m = a.matrix in
-    fifth.put_row-3.ensures
+    c.put_row-3.ensures
     ∙ ap (λ (l : List ℕ). sets l (a.at + 56) (signed_bytes (row_of m.row2)))
-    (fourth.put_row-2.ensures
+    (c.put_row-2.ensures
     ∙ ap (λ (l : List ℕ). sets l (a.at + 32) (signed_bytes (row_of m.row1)))
-    (third.put_row.ensures
+    (c.put_row.ensures
     ∙ ap (λ (l : List ℕ). sets l (a.at + 8) (signed_bytes (row_of m.row0)))
-    (second.put_u32-2.ensures ∙ ap (λ (l : List ℕ). sets l (a.at + 4) (bytes_of 4 a.place)) first.put_u32.ensures)))
+    (c.put_u32-2.ensures ∙ ap (λ (l : List ℕ). sets l (a.at + 4) (bytes_of 4 a.place)) c.put_u32.ensures)))
     ∙ parts-stored a.room.now a.at a.number a.place m
 
 pub put_parts_spec : {M : Type 1} → statement M

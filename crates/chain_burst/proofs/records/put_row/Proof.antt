@@ -47,17 +47,14 @@ same_length c = search rules
 
 returns : tie.Need-returns
 returns c =
-    let third = c.before.before in
-    let second = third.before.before.before.before.before.before in
-    let first = second.before.before.before.before.before.before in
-    let a = first.before.before.before.before.before.args in
-    let g = first.before.before.struct_told-1.given in
-    let x : first.before.bits.result ≡ of_z w64 a.row.x = first.before.bits.ensures ∙ again a.row.x g.0.1 in
-    let y : second.before.bits-2.result ≡ of_z w64 a.row.y = second.before.bits-2.ensures ∙ again a.row.y g.1.0.1 in
-    let z : third.before.bits-3.result ≡ of_z w64 a.row.z = third.before.bits-3.ensures ∙ again a.row.z g.1.1.0.1 in
-    third.put_u64-3.ensures
-    ∙ ap (λ (l : List ℕ). sets l (a.at + 16) (bytes_of 8 third.before.bits-3.result))
-    (second.put_u64-2.ensures ∙ ap (λ (l : List ℕ). sets l (a.at + 8) (bytes_of 8 second.before.bits-2.result)) first.put_u64.ensures)
+    let a = c.args in
+    let g = c.struct_told-1.given in
+    let x : c.bits.result ≡ of_z w64 a.row.x = c.bits.ensures ∙ again a.row.x g.0.1 in
+    let y : c.bits-2.result ≡ of_z w64 a.row.y = c.bits-2.ensures ∙ again a.row.y g.1.0.1 in
+    let z : c.bits-3.result ≡ of_z w64 a.row.z = c.bits-3.ensures ∙ again a.row.z g.1.1.0.1 in
+    c.put_u64-3.ensures
+    ∙ ap (λ (l : List ℕ). sets l (a.at + 16) (bytes_of 8 c.bits-3.result))
+    (c.put_u64-2.ensures ∙ ap (λ (l : List ℕ). sets l (a.at + 8) (bytes_of 8 c.bits-2.result)) c.put_u64.ensures)
     ∙ (λ i. sets (sets (sets a.room.now a.at (bytes_of 8 (x i))) (a.at + 8) (bytes_of 8 (y i))) (a.at + 16) (bytes_of 8 (z i)))
     ∙ row-stored a.room.now a.at a.row.x a.row.y a.row.z
 

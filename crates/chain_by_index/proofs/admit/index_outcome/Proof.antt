@@ -10,10 +10,9 @@ use Rattle.chain_by_index.specs.Laws.{wrong-index, right-index}
 use Rattle.chain_by_index.proofs.admit.index_outcome.Statement.{statement}
 use Rattle.chain_by_index.proofs.admit.index_outcome.Tie as tie
 
-tested : (c : tie.After-matches) → let a = c.before.before.args in c.matches.result ≡ is_index a.stars.now a.floor a.index.now
+tested : (c : tie.After-matches) → let a = c.args in c.matches.result ≡ is_index a.stars.now a.floor a.index.now
 tested c =
-    let s = c.before.before in
-    c.matches.ensures ∙ ap (λ (f : ℤ). is_index s.args.stars.now f s.args.index.now) (to_z-of_z w64 s.args.floor s.ranges.floor)
+    c.matches.ensures ∙ ap (λ (f : ℤ). is_index c.args.stars.now f c.args.index.now) (to_z-of_z w64 c.args.floor c.ranges.floor)
 
 matches-requires : tie.Need-matches-requires
 matches-requires c κs = search rules
@@ -24,10 +23,10 @@ plain-requires c κs = search rules
 returns : tie.Need-returns-then-not-matches
 returns c =
     let d = c.before.before in
-    c.plain.ensures ∙ sym (wrong-index _ _ _ (sym (tested d) ∙ not-true d.matches.result c.before.if-not-matches.true))
+    c.plain.ensures ∙ sym (wrong-index _ _ _ (sym (tested d) ∙ not-true c.matches.result c.if-not-matches.true))
 
 returns-2 : tie.Need-returns
-returns-2 c = sym (right-index _ _ _ (sym (tested c.before) ∙ not-false c.before.matches.result c.if-not-matches.false))
+returns-2 c = sym (right-index _ _ _ (sym (tested c.before) ∙ not-false c.matches.result c.if-not-matches.false))
 
 pub index_outcome_spec : {M : Type 1} → statement M
 index_outcome_spec = tie.close (tie.spec matches-requires plain-requires returns returns-2)

@@ -35,13 +35,13 @@ start c = c.before.before.before.before
 
 -- so many records: those of a valid catalogue
 valid : (c : tie.In-Count) → Valid (start c).args.bytes.now × (c.in-Count.field-0 ≡ records_in (start c).args.bytes.now)
-valid c = checked-valid _ _ (sym c.before.check-checked.ensures.0 ∙ c.in-Count.is)
+valid c = checked-valid _ _ (sym c.check-checked.ensures.0 ∙ c.in-Count.is)
 
 -- the slice that is handed on
-fits : (c : tie.After-stars-numbers) → 3 * c.before.in-Count.field-0 ≤ length c.stars-numbers.result
+fits : (c : tie.After-stars-numbers) → 3 * c.in-Count.field-0 ≤ length c.stars-numbers.result
 fits c = lent-within _ _ _ c.stars-numbers.ensures (valid c.before).1 (valid c.before).0
 
-lent : (c : tie.After-stars-numbers) → take (3 * c.before.in-Count.field-0) c.stars-numbers.result ≡ stars_of (start c.before).args.bytes.now
+lent : (c : tie.After-stars-numbers) → take (3 * c.in-Count.field-0) c.stars-numbers.result ≡ stars_of (start c.before).args.bytes.now
 lent c = lent-stars _ _ _ c.stars-numbers.ensures (valid c.before).1 (valid c.before).0
 
 stars-requires : tie.Need-stars-numbers-requires
@@ -61,8 +61,8 @@ index-outcome-requires c κs = let t = c.before in subst (Listed 512) (sym (lent
 
 returns : tie.Need-returns-in-Refused
 returns c =
-    let a = c.before.before.before.before.args in
-    sym (stars-joined a.bytes.now a.index.now a.floor (checked_refused _ _ (sym c.before.check-checked.ensures.0
+    let a = c.args in
+    sym (stars-joined a.bytes.now a.index.now a.floor (checked_refused _ _ (sym c.check-checked.ensures.0
     ∙ c.in-Refused.is)))
 
 returns-2 : tie.Need-returns-in-Count

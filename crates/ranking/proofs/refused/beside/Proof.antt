@@ -12,8 +12,8 @@ use Rattle.ranking.proofs.refused.beside.Statement.{statement}
 use Rattle.ranking.proofs.refused.beside.Tie as tie
 
 -- the list keeps its rule
-kept : (c : tie.Else-not-list_ok) → list_ok c.before.before.args.directions.now ≡ true
-kept c = sym c.before.list_ok.ensures ∙ not-false c.before.list_ok.result c.if-not-list_ok.false
+kept : (c : tie.Else-not-list_ok) → list_ok c.args.directions.now ≡ true
+kept c = sym c.list_ok.ensures ∙ not-false c.list_ok.result c.if-not-list_ok.false
 
 list-ok-requires : tie.Need-list_ok-requires
 list-ok-requires c κs = search rules
@@ -23,29 +23,28 @@ plain-requires c κs = search rules
 
 returns : tie.Need-returns-then-not-list_ok
 returns c =
-    let d = c.before.before.list_ok in
-    c.plain.ensures ∙ sym (list-refused _ _ _ _ (sym d.ensures ∙ not-true d.result c.before.if-not-list_ok.true))
+    let d = c.list_ok in
+    c.plain.ensures ∙ sym (list-refused _ _ _ _ (sym d.ensures ∙ not-true d.result c.if-not-list_ok.true))
 
 plain-requires-2 : tie.Need-plain-requires-then-tolerance-gt-LARGEST_TOLERANCE
 plain-requires-2 c κs = search rules
 
 returns-2 : tie.Need-returns-then-tolerance-gt-LARGEST_TOLERANCE
-returns-2 c = c.plain-then-tolerance-gt-LARGEST_TOLERANCE.ensures ∙ sym (tolerance-refused _ _ _ _ (kept c.before.before) c.before.if-tolerance-gt-LARGEST_TOLERANCE.true)
+returns-2 c = c.plain-then-tolerance-gt-LARGEST_TOLERANCE.ensures ∙ sym (tolerance-refused _ _ _ _ (kept c.before.before) c.if-tolerance-gt-LARGEST_TOLERANCE.true)
 
 mul-if3 : tie.Need-overflow_mul-directions
 mul-if3 c =
-    let s = c.before.before.before in
-    let m = mul-le-mul (ok-directions s.args.directions.now (kept c.before)).most s.requires in
+    let m = mul-le-mul (ok-directions c.args.directions.now (kept c.before)).most c.requires in
     omega (arith, m)
 
 plain-requires-3 : tie.Need-plain-requires-then-words-directions
 plain-requires-3 c κs = search rules
 
 returns-3 : tie.Need-returns-then-words-directions
-returns-3 c = c.plain-then-words-directions.ensures ∙ sym (room-refused _ _ _ _ (kept c.before.before.before) c.before.before.if-tolerance-gt-LARGEST_TOLERANCE.false c.before.if-words-directions.true)
+returns-3 c = c.plain-then-words-directions.ensures ∙ sym (room-refused _ _ _ _ (kept c.before.before.before) c.if-tolerance-gt-LARGEST_TOLERANCE.false c.if-words-directions.true)
 
 returns-4 : tie.Need-returns
-returns-4 c = sym (none-refused _ _ _ _ (kept c.before.before) c.before.if-tolerance-gt-LARGEST_TOLERANCE.false c.if-words-directions.false)
+returns-4 c = sym (none-refused _ _ _ _ (kept c.before.before) c.if-tolerance-gt-LARGEST_TOLERANCE.false c.if-words-directions.false)
 
 pub beside_spec : {M : Type 1} → statement M
 beside_spec =

@@ -21,16 +21,16 @@ enum-known-checked-2 c = search rules
 
 beside-requires : tie.Need-beside-requires
 beside-requires c κs =
-    let v = checked-valid _ _ (sym c.before.check-checked.ensures.0 ∙ c.in-Count.is) in
+    let v = checked-valid _ _ (sym c.check-checked.ensures.0 ∙ c.in-Count.is) in
     omega (arith, v.0.size.most, v.1)
 
 returns : tie.Need-returns-in-Refused
-returns c = sym (outcome-joined _ _ _ _ (checked_refused _ _ (sym c.before.check-checked.ensures.0 ∙ c.in-Refused.is)))
+returns c = sym (outcome-joined _ _ _ _ (checked_refused _ _ (sym c.check-checked.ensures.0 ∙ c.in-Refused.is)))
 
 returns-2 : tie.Need-returns-in-Count
 returns-2 c =
-    let a = c.before.before.before.before.args in
-    let v = checked-valid _ _ (sym c.before.before.check-checked.ensures.0 ∙ c.before.in-Count.is) in
+    let a = c.args in
+    let v = checked-valid _ _ (sym c.check-checked.ensures.0 ∙ c.in-Count.is) in
     c.beside.ensures
     ∙ ap (λ (n : ℕ). first_applying (rows_beside a.directions.now n a.tolerance a.words)) v.1
     ∙ sym (outcome-joined _ _ _ _ (valid-accepted _ v.0))

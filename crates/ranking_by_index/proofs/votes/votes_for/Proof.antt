@@ -15,17 +15,16 @@ use Rattle.ranking_by_index.proofs.votes.votes_for.Tie as tie
 -- what the votes are counted by
 abbrev by : tie.After-products_of-products → Setting
 by d =
-    let x = d.before.before.args in
+    let x = d.args in
     setting d.products_of-products.result (triples x.directions.now) x.i x.stars.now x.tolerance
 
 -- what the index voted
 indexed : (c : tie.After-vote_above)
     → let d = c.before.before.before in
-    let x = d.before.before.args in
+    let x = c.args in
     (k : ℕ) → get_or c.vote_above.new.1.1.1.1.1.1.0 k 0 ≡ votes_by (by_index x.floor x.tolerance) (by d) k
 indexed c k =
-    let s = c.before.before.before.before.before in
-    omega (arith, c.vote_above.ensures.added s.args.stars.now s.requires.1.0 s.requires.1.1.1.1 k, at-zeros {A = ℕ} 0 512 k)
+    omega (arith, c.vote_above.ensures.added c.args.stars.now c.requires.1.0 c.requires.1.1.1.1 k, at-zeros {A = ℕ} 0 512 k)
 
 products-of-requires : tie.Need-products_of-products-requires
 products-of-requires c κs = search rules
@@ -38,15 +37,14 @@ slice-aggregate-vote-above-2 c = search rules
 
 vote-above-requires : tie.Need-vote_above-requires
 vote-above-requires c κs =
-    let d = c.before.before in
-    let s = d.before.before in (
-      record { stars = s.args.stars.now; listed = s.requires.1.0; right = s.requires.1.1.1.1 },
+    (
+      record { stars = c.args.stars.now; listed = c.requires.1.0; right = c.requires.1.1.1.1 },
       (
-        (s.requires.0.few, search rules),
+        (c.requires.0.few, search rules),
         (
-          d.products_of-products.ensures.1,
+          c.products_of-products.ensures.1,
           (
-            s.requires.1.1.1.0,
+            c.requires.1.1.1.0,
             (length-replicate {A = ℕ} 512 0, λ k. omega (arith, at-zeros {A = ℕ} 0 512 k)),
           ),
         ),
@@ -63,18 +61,17 @@ vote-below-requires : tie.Need-vote_below-requires
 vote-below-requires c κs =
     let a = c.before.before.before in
     let d = a.before.before.before in
-    let s = d.before.before in
-    let x = s.args in (
-      s.requires.1.0,
+    let x = c.args in (
+      c.requires.1.0,
       (
-        (s.requires.0.few, search rules),
+        (c.requires.0.few, search rules),
         (
-          d.products_of-products.ensures.1,
+          c.products_of-products.ensures.1,
           (
-            s.requires.1.1.1.0,
+            c.requires.1.1.1.0,
             (
-              a.vote_above.auto.1.1.1.1.1.1.0 ∙ length-replicate {A = ℕ} 512 0,
-              λ k. omega (arith, indexed a k, by_most (by_index x.floor x.tolerance) (by d) k s.requires.0.few s.requires.1.0.few),
+              c.vote_above.auto.1.1.1.1.1.1.0 ∙ length-replicate {A = ℕ} 512 0,
+              λ k. omega (arith, indexed a k, by_most (by_index x.floor x.tolerance) (by d) k c.requires.0.few c.requires.1.0.few),
             ),
           ),
         ),
@@ -83,12 +80,12 @@ vote-below-requires c κs =
 
 returns : tie.Need-returns
 returns c =
-    let b = c.before.vote_below in
+    let b = c.vote_below in
     let a = c.before.before.before.before.before in
     let d = a.before.before.before in
-    let x = d.before.before.args in
-    all-counted x.directions.now x.stars.now d.products_of-products.result _ x.tolerance x.i d.products_of-products.ensures.0
-    (b.auto.1.1.1.1.1.1.0 ∙ a.vote_above.auto.1.1.1.1.1.1.0 ∙ length-replicate {A = ℕ} 512 0)
+    let x = c.args in
+    all-counted x.directions.now x.stars.now c.products_of-products.result _ x.tolerance x.i c.products_of-products.ensures.0
+    (b.auto.1.1.1.1.1.1.0 ∙ c.vote_above.auto.1.1.1.1.1.1.0 ∙ length-replicate {A = ℕ} 512 0)
     (λ k.
     let u : votes_by (by_index x.floor x.tolerance) (by d) k + votes_by (by_catalogue x.floor x.tolerance) (by d) k
     ≡ so_far (by d) (triples x.stars.now) k =

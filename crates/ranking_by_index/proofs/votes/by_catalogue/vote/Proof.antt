@@ -31,14 +31,13 @@ lifted c = c.raise-product.ensures ∙ ap raised (back (product c.before.before.
 -- the span's ends
 around : (c : tie.After-raise-product) → (6223372036854775808 ≤ c.raise-product.result) × (c.raise-product.result ≤ 12223372036854775808)
 around c =
-    let s = c.before.before.before.before in
-    let w = raised-within (s.requires.1.1.0.at s.args.j) in
+    let w = raised-within (c.requires.1.1.0.at c.args.j) in
     (omega (arith, lifted c, w.0), omega (arith, lifted c, w.1))
 
 returns : tie.Need-returns-then-j-i
 returns c =
     let s = c.before.before in
-    let x = s.args in
+    let x = c.args in
     λ k. omega (arith, adds-self (by_catalogue x.floor x.tolerance) (q s) x.stars.now x.tolerance x.i k x.j c.if-j-i.true)
 
 mul-raise : tie.Need-offset_bounds-products-j
@@ -51,44 +50,43 @@ raise-requires : tie.Need-raise-product-requires
 raise-requires c κs = search rules
 
 sub-lower : tie.Need-overflow_sub-lower
-sub-lower c = omega (arith, (around c).0, c.before.before.before.before.requires.1.1.1.0)
+sub-lower c = omega (arith, (around c).0, c.requires.1.1.1.0)
 
 returns-2 : tie.Need-returns-then-floor-lower
 returns-2 c =
     let r = c.before in
     let s = r.before.before.before.before in
-    let x = s.args in
+    let x = c.args in
     λ k.
     omega (
       arith,
-      adds-failed (by_catalogue x.floor x.tolerance) (q s) x.stars.now x.tolerance x.i k x.j r.before.before.if-j-i.false
+      adds-failed (by_catalogue x.floor x.tolerance) (q s) x.stars.now x.tolerance x.i k x.j c.if-j-i.false
           (ap not (le-leb x.floor (raised (q s) - x.tolerance) (omega (arith, lifted r, c.if-floor-lower.true)))),
     )
 
 add-vote-all : tie.Need-overflow_add-product
-add-vote-all c = let r = c.before in omega (arith, (around r).1, r.before.before.before.before.requires.1.1.1.0)
+add-vote-all c = let r = c.before in omega (arith, (around r).1, c.requires.1.1.1.0)
 
 vote-all-requires : tie.Need-vote_all-requires
 vote-all-requires c κs =
-    let s = c.before.before.before.before.before.before in
-    (s.requires.0, (s.requires.1.1.1.1.0, s.requires.1.1.1.1.1))
+    (c.requires.0, (c.requires.1.1.1.1.0, c.requires.1.1.1.1.1))
 
 same_length : tie.Need-shape_of-votes
 same_length c = search rules
 
 returns-3 : tie.Need-returns
 returns-3 c =
-    let w = c.before.before.vote_all in
+    let w = c.vote_all in
     let f = c.before.before.before.before in
     let r = f.before in
     let s = r.before.before.before.before in
-    let x = s.args in
-    let h : raised (q s) - x.tolerance < x.floor = omega (arith, lifted r, f.if-floor-lower.false) in
+    let x = c.args in
+    let h : raised (q s) - x.tolerance < x.floor = omega (arith, lifted r, c.if-floor-lower.false) in
     λ k.
     w.ensures k ∙ ap (λ (n : ℕ). get_or x.votes.now k 0 + n)
     ((λ u. all_votes x.stars.now (lifted r u - x.tolerance) (lifted r u + x.tolerance) k)
-    ∙ all_plain x.stars.now (q s) x.tolerance k s.requires.0 (product s).ok
-    ∙ sym (adds-passed (by_catalogue x.floor x.tolerance) (q s) x.stars.now x.tolerance x.i k x.j r.before.before.if-j-i.false
+    ∙ all_plain x.stars.now (q s) x.tolerance k c.requires.0 (product s).ok
+    ∙ sym (adds-passed (by_catalogue x.floor x.tolerance) (q s) x.stars.now x.tolerance x.i k x.j c.if-j-i.false
     (ap not (lt-leb x.floor (raised (q s) - x.tolerance) h))))
 
 pub vote_spec : {M : Type 1} → statement M

@@ -25,21 +25,19 @@ loop-holds c = (omega arith, refl, λ k. sum-empty _ _)
 
 vote-row-requires : tie.Need-vote_row-requires invariant-loop decreases-loop
 vote-row-requires c κs =
-    let l = c.before.before in
-    let s = l.before.before in
-    let x = s.args in
-    let n : l.loop-b.b ≤ 512 = omega (arith, s.requires.0.few) in (
-      s.requires.0,
+    let x = c.args in
+    let n : c.loop-b.b ≤ 512 = omega (arith, c.requires.0.few) in (
+      c.requires.0,
       (
         omega arith,
         (
-          l.loop-b.invariant.1 ∙ s.requires.1.0,
+          c.loop-b.invariant.1 ∙ c.requires.1.0,
           λ k.
               omega (
                 arith,
-                l.loop-b.invariant.2 k,
-                s.requires.1.1 k,
-                sum_bound 1024 l.loop-b.b (row_votes x.stars.now x.lower x.upper k)
+                c.loop-b.invariant.2 k,
+                c.requires.1.1 k,
+                sum_bound 1024 c.loop-b.b (row_votes x.stars.now x.lower x.upper k)
                     (λ b h. omega (arith, row-most x.stars.now x.lower x.upper k b)),
               ),
         ),
@@ -54,13 +52,12 @@ loop-less c = search rules
 
 loop-again : tie.Need-loop-b-preserved invariant-loop decreases-loop
 loop-again c =
-    let w = c.before.before.vote_row in
-    let l = c.before.before.before.before.before in
-    let x = l.before.before.args in (
+    let w = c.vote_row in
+    let x = c.args in (
       omega arith,
-      w.auto.1.1.1.1.0 ∙ l.loop-b.invariant.1,
+      w.auto.1.1.1.1.0 ∙ c.loop-b.invariant.1,
       λ k.
-          omega (arith, w.ensures k, l.loop-b.invariant.2 k, sum-next l.loop-b.b (row_votes x.stars.now x.lower x.upper k)),
+          omega (arith, w.ensures k, c.loop-b.invariant.2 k, sum-next c.loop-b.b (row_votes x.stars.now x.lower x.upper k)),
     )
 
 same_length : tie.Need-shape_of-votes invariant-loop decreases-loop
@@ -69,10 +66,9 @@ same_length c = search rules
 returns : tie.Need-returns invariant-loop decreases-loop
 unfolding all_votes
 returns c =
-    let l = c.before in
-    let x = l.before.before.args in
-    let e : l.loop-b.b ≡ triples x.stars.now = omega arith in
-    λ k. l.loop-b.invariant.2 k ∙ ap (λ (n : ℕ). get_or x.votes.now k 0 + sum_to n (row_votes x.stars.now x.lower x.upper k)) e
+    let x = c.args in
+    let e : c.loop-b.b ≡ triples x.stars.now = omega arith in
+    λ k. c.loop-b.invariant.2 k ∙ ap (λ (n : ℕ). get_or x.votes.now k 0 + sum_to n (row_votes x.stars.now x.lower x.upper k)) e
 
 pub vote_all_spec : {M : Type 1} → statement M
 vote_all_spec =

@@ -33,29 +33,27 @@ loop-holds c = (omega arith, refl, λ k. sum-empty _ _)
 
 vote-requires : tie.Need-vote-requires invariant-loop decreases-loop
 vote-requires c κs =
-    let l = c.before.before in
-    let s = l.before.before in
-    let x = s.args in
-    let p = s.requires.1.1.1.1 in
-    let n : l.loop-j.j ≤ 8 = omega (arith, s.requires.1.0.0) in (
-      s.requires.0,
+    let x = c.args in
+    let p = c.requires.1.1.1.1 in
+    let n : c.loop-j.j ≤ 8 = omega (arith, c.requires.1.0.0) in (
+      c.requires.0,
       (
-        omega (arith, s.requires.1.0.1),
+        omega (arith, c.requires.1.0.1),
         (
-          s.requires.1.1.0,
+          c.requires.1.1.0,
           (
-            s.requires.1.1.1.0,
+            c.requires.1.1.1.0,
             (
-              l.loop-j.invariant.1 ∙ p.0,
+              c.loop-j.invariant.1 ∙ p.0,
               λ k.
                   omega (
                     arith,
-                    l.loop-j.invariant.2 k,
+                    c.loop-j.invariant.2 k,
                     p.1 k,
-                    sum_bound 512 l.loop-j.j
+                    sum_bound 512 c.loop-j.j
                         (part x.products.now x.i x.tolerance x.floor x.stars.now k)
                         (λ j h. adds-most (by_catalogue x.floor x.tolerance) (get_or x.products.now j (pos 0)) x.stars.now x.tolerance x.i k j
-                        s.requires.0.few),
+                        c.requires.0.few),
                   ),
             ),
           ),
@@ -71,13 +69,12 @@ loop-less c = search rules
 
 loop-again : tie.Need-loop-j-preserved invariant-loop decreases-loop
 loop-again c =
-    let w = c.before.before.vote in
-    let l = c.before.before.before.before.before in
-    let x = l.before.before.args in (
+    let w = c.vote in
+    let x = c.args in (
       omega arith,
-      w.auto.1.1.1.1.1.1.0 ∙ l.loop-j.invariant.1,
+      w.auto.1.1.1.1.1.1.0 ∙ c.loop-j.invariant.1,
       λ k.
-          omega (arith, w.ensures k, l.loop-j.invariant.2 k, sum-next l.loop-j.j (part x.products.now x.i x.tolerance x.floor x.stars.now k)),
+          omega (arith, w.ensures k, c.loop-j.invariant.2 k, sum-next c.loop-j.j (part x.products.now x.i x.tolerance x.floor x.stars.now k)),
     )
 
 same_length : tie.Need-shape_of-votes invariant-loop decreases-loop
@@ -85,11 +82,10 @@ same_length c = search rules
 
 returns : tie.Need-returns invariant-loop decreases-loop
 returns c =
-    let l = c.before in
-    let x = l.before.before.args in
-    let d : l.loop-j.j ≡ x.count = omega arith in
+    let x = c.args in
+    let d : c.loop-j.j ≡ x.count = omega arith in
     λ k.
-    l.loop-j.invariant.2 k ∙ ap (λ (n : ℕ). get_or x.votes.now k 0 + n)
+    c.loop-j.invariant.2 k ∙ ap (λ (n : ℕ). get_or x.votes.now k 0 + n)
     (ap (λ (n : ℕ). sum_to n (part x.products.now x.i x.tolerance x.floor x.stars.now k)) d
     ∙ sym (by-sum (by_catalogue x.floor x.tolerance) (setting x.products.now x.count x.i x.stars.now x.tolerance) k))
 

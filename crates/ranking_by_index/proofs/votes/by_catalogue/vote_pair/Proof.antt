@@ -12,43 +12,38 @@ product-requires c κs = search rules
 
 returns : tie.Need-returns-then-product-lower
 returns c =
-    let x = c.before.before.before.args in
-    λ k. omega (arith, meets-below x.stars.now x.lower x.upper k x.b x.a (omega (arith, c.before.product-product.ensures, c.if-product-lower.true)))
+    let x = c.args in
+    λ k. omega (arith, meets-below x.stars.now x.lower x.upper k x.b x.a (omega (arith, c.product-product.ensures, c.if-product-lower.true)))
 
 returns-2 : tie.Need-returns-then-upper-product
 returns-2 c =
-    let p = c.before.before in
-    let x = p.before.before.args in
-    λ k. omega (arith, meets-above x.stars.now x.lower x.upper k x.b x.a (omega (arith, p.product-product.ensures, c.if-upper-product.true)))
+    let x = c.args in
+    λ k. omega (arith, meets-above x.stars.now x.lower x.upper k x.b x.a (omega (arith, c.product-product.ensures, c.if-upper-product.true)))
 
 ends-requires : tie.Need-ends-requires
 ends-requires c κs = search rules
 
 vote-both-requires : tie.Need-vote_both-requires
 vote-both-requires c κs =
-    let s = c.before.before.before.before.before.before in
     let e = c.ends.ensures in
-    ((omega (arith, s.requires.0.few, s.requires.1.1.0), omega (arith, s.requires.0.few, s.requires.1.1.0)), s.requires.1.1.1)
+    ((omega (arith, c.requires.0.few, c.requires.1.1.0), omega (arith, c.requires.0.few, c.requires.1.1.0)), c.requires.1.1.1)
 
 same_length : tie.Need-shape_of-votes
 same_length c = search rules
 
 returns-3 : tie.Need-returns
 returns-3 c =
-    let w = c.before.before.vote_both in
-    let e = c.before.before.before.ends.ensures in
-    let t = c.before.before.before.before.before in
-    let p = t.before.before in
-    let s = p.before.before in
-    let x = s.args in
+    let w = c.vote_both in
+    let e = c.ends.ensures in
+    let x = c.args in
     λ k.
     omega (
       arith,
       w.ensures k,
       ap (named k) e,
-      meets-in x.stars.now x.lower x.upper k x.b x.a (omega (arith, p.product-product.ensures, t.before.if-product-lower.false))
-          (omega (arith, p.product-product.ensures, t.if-upper-product.false))
-          (omega (arith, s.requires.0.few)) (omega (arith, s.requires.0.few)),
+      meets-in x.stars.now x.lower x.upper k x.b x.a (omega (arith, c.product-product.ensures, c.if-product-lower.false))
+          (omega (arith, c.product-product.ensures, c.if-upper-product.false))
+          (omega (arith, c.requires.0.few)) (omega (arith, c.requires.0.few)),
     )
 
 pub vote_pair_spec : {M : Type 1} → statement M

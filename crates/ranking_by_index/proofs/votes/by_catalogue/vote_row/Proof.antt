@@ -24,22 +24,20 @@ loop-holds c = (omega arith, refl, λ k. sum-empty _ _)
 
 vote-pair-requires : tie.Need-vote_pair-requires invariant-loop decreases-loop
 vote-pair-requires c κs =
-    let l = c.before.before in
-    let s = l.before.before in
-    let x = s.args in (
-      s.requires.0,
+    let x = c.args in (
+      c.requires.0,
       (
-        (omega arith, s.requires.1.0),
+        (omega arith, c.requires.1.0),
         (
-          l.loop-a.invariant.1 ∙ s.requires.1.1.0,
+          c.loop-a.invariant.1 ∙ c.requires.1.1.0,
           λ k.
               omega (
                 arith,
-                s.requires.0.few,
-                s.requires.1.0,
-                l.loop-a.invariant.2 k,
-                s.requires.1.1.1 k,
-                sum_bound 2 l.loop-a.a (meets (in_span x.stars.now x.lower x.upper) k x.b)
+                c.requires.0.few,
+                c.requires.1.0,
+                c.loop-a.invariant.2 k,
+                c.requires.1.1.1 k,
+                sum_bound 2 c.loop-a.a (meets (in_span x.stars.now x.lower x.upper) k x.b)
                     (λ a h. meets-most x.stars.now x.lower x.upper k x.b a),
               ),
         ),
@@ -54,13 +52,12 @@ loop-less c = search rules
 
 loop-again : tie.Need-loop-a-preserved invariant-loop decreases-loop
 loop-again c =
-    let w = c.before.before.vote_pair in
-    let l = c.before.before.before.before.before in
-    let x = l.before.before.args in (
+    let w = c.vote_pair in
+    let x = c.args in (
       omega arith,
-      w.auto.1.1.1.1.1.0 ∙ l.loop-a.invariant.1,
+      w.auto.1.1.1.1.1.0 ∙ c.loop-a.invariant.1,
       λ k.
-          omega (arith, w.ensures k, l.loop-a.invariant.2 k, sum-next l.loop-a.a (meets (in_span x.stars.now x.lower x.upper) k x.b)),
+          omega (arith, w.ensures k, c.loop-a.invariant.2 k, sum-next c.loop-a.a (meets (in_span x.stars.now x.lower x.upper) k x.b)),
     )
 
 same_length : tie.Need-shape_of-votes invariant-loop decreases-loop
@@ -69,10 +66,9 @@ same_length c = search rules
 returns : tie.Need-returns invariant-loop decreases-loop
 unfolding row_votes
 returns c =
-    let l = c.before in
-    let x = l.before.before.args in
-    let e : l.loop-a.a ≡ x.b = omega arith in
-    λ k. l.loop-a.invariant.2 k ∙ ap (λ (n : ℕ). get_or x.votes.now k 0 + sum_to n (meets (in_span x.stars.now x.lower x.upper) k x.b)) e
+    let x = c.args in
+    let e : c.loop-a.a ≡ x.b = omega arith in
+    λ k. c.loop-a.invariant.2 k ∙ ap (λ (n : ℕ). get_or x.votes.now k 0 + sum_to n (meets (in_span x.stars.now x.lower x.upper) k x.b)) e
 
 pub vote_row_spec : {M : Type 1} → statement M
 vote_row_spec =

@@ -40,14 +40,12 @@ loop-less c = search rules
 
 loop-again : tie.Need-loop-from-preserved-then-high-lower invariant-loop decreases-loop
 loop-again c =
-    let l = c.before.before.before in
-    let s = l.before.before in
-    let x = s.args in
-    let m = l.loop-from.from + (l.loop-from.to - l.loop-from.from) / 2 in (
+    let x = c.args in
+    let m = c.loop-from.from + (c.loop-from.to - c.loop-from.from) / 2 in (
       omega arith,
-      l.loop-from.invariant.1,
-      (λ k h. omega (arith, s.requires.rising k m (omega arith) (omega arith), c.before.high.ensures, c.if-high-lower.true)),
-      l.loop-from.invariant.3,
+      c.loop-from.invariant.1,
+      (λ k h. omega (arith, c.requires.rising k m (omega arith) (omega arith), c.high.ensures, c.if-high-lower.true)),
+      c.loop-from.invariant.3,
     )
 
 loop-less-2 : tie.Need-loop-from-smaller invariant-loop decreases-loop
@@ -55,15 +53,13 @@ loop-less-2 c = search rules
 
 loop-again-2 : tie.Need-loop-from-preserved invariant-loop decreases-loop
 loop-again-2 c =
-    let l = c.before.before.before in
-    let s = l.before.before in
-    let x = s.args in
-    let m = l.loop-from.from + (l.loop-from.to - l.loop-from.from) / 2 in
-    (omega arith, omega arith, l.loop-from.invariant.2, (λ k h i. omega (arith, s.requires.rising m k h i, c.before.high.ensures, c.if-high-lower.false)))
+    let x = c.args in
+    let m = c.loop-from.from + (c.loop-from.to - c.loop-from.from) / 2 in
+    (omega arith, omega arith, c.loop-from.invariant.2, (λ k h i. omega (arith, c.requires.rising m k h i, c.high.ensures, c.if-high-lower.false)))
 
 returns : tie.Need-returns invariant-loop decreases-loop
 returns c =
-    let l = c.before.loop-from in
+    let l = c.loop-from in
     (omega arith, (l.invariant.2, λ k h i. l.invariant.3 k (omega arith) i))
 
 pub first_from_spec : {M : Type 1} → statement M

@@ -31,14 +31,13 @@ lifted c = c.raise-product.ensures ∙ ap raised (back (product c.before.before.
 -- the span's ends
 around : (c : tie.After-raise-product) → (6223372036854775808 ≤ c.raise-product.result) × (c.raise-product.result ≤ 12223372036854775808)
 around c =
-    let s = c.before.before.before.before.before in
-    let w = raised-within (s.requires.1.1.1.0.at s.args.j) in
+    let w = raised-within (c.requires.1.1.1.0.at c.args.j) in
     (omega (arith, lifted c, w.0), omega (arith, lifted c, w.1))
 
 returns : tie.Need-returns-then-j-i
 returns c =
     let s = c.before.before.before in
-    let x = s.args in
+    let x = c.args in
     record {
       added = λ stars l e k. omega (arith, adds-self (by_index x.floor x.tolerance) (q s) stars x.tolerance x.i k x.j c.if-j-i.true);
     }
@@ -53,50 +52,49 @@ raise-requires : tie.Need-raise-product-requires
 raise-requires c κs = search rules
 
 sub-lower : tie.Need-overflow_sub-lower
-sub-lower c = omega (arith, (around c).0, c.before.before.before.before.before.requires.1.1.1.1.0)
+sub-lower c = omega (arith, (around c).0, c.requires.1.1.1.1.0)
 
 returns-2 : tie.Need-returns-then-lower-floor
 returns-2 c =
     let r = c.before in
     let s = r.before.before.before.before.before in
-    let x = s.args in
+    let x = c.args in
     record {
       added = λ stars l e k.
           omega (
             arith,
-            adds-failed (by_index x.floor x.tolerance) (q s) stars x.tolerance x.i k x.j r.before.before.if-j-i.false
+            adds-failed (by_index x.floor x.tolerance) (q s) stars x.tolerance x.i k x.j c.if-j-i.false
                 (lt-leb x.floor (raised (q s) - x.tolerance) (omega (arith, lifted r, c.if-lower-floor.true))),
           );
     }
 
 add-walk : tie.Need-overflow_add-product
-add-walk c = let r = c.before in omega (arith, (around r).1, r.before.before.before.before.before.requires.1.1.1.1.0)
+add-walk c = let r = c.before in omega (arith, (around r).1, c.requires.1.1.1.1.0)
 
 walk-requires : tie.Need-walk-requires
 walk-requires c κs =
-    let s = c.before.before.before.before.before.before.before in
-    (s.requires.0, (s.requires.1.1.1.1.1.0, (s.requires.1.0, s.requires.1.1.1.1.1.1)))
+    (c.requires.0, (c.requires.1.1.1.1.1.0, (c.requires.1.0, c.requires.1.1.1.1.1.1)))
 
 same_length : tie.Need-shape_of-votes
 same_length c = search rules
 
 returns-3 : tie.Need-returns
 returns-3 c =
-    let w = c.before.before.walk in
+    let w = c.walk in
     let f = c.before.before.before.before in
     let r = f.before in
     let t = r.before.before.before.before in
     let s = t.before in
-    let x = s.args in
-    let b : Bytes x.index.now = λ n. (t.shared_slice_known-1.given n).fits in
-    let h : x.floor ≤ raised (q s) - x.tolerance = omega (arith, lifted r, f.if-lower-floor.false) in
+    let x = c.args in
+    let b : Bytes x.index.now = λ n. (c.shared_slice_known-1.given n).fits in
+    let h : x.floor ≤ raised (q s) - x.tolerance = omega (arith, lifted r, c.if-lower-floor.false) in
     record {
       added = λ stars l e k.
           w.ensures k ∙ ap (λ (n : ℕ). get_or x.votes.now k 0 + n)
-          (span-all stars x.floor (r.raise-product.result - x.tolerance) (r.raise-product.result + x.tolerance) k l f.if-lower-floor.false x.index.now b e
+          (span-all stars x.floor (c.raise-product.result - x.tolerance) (c.raise-product.result + x.tolerance) k l c.if-lower-floor.false x.index.now b e
           ∙ (λ u. all_votes stars (lifted r u - x.tolerance) (lifted r u + x.tolerance) k)
           ∙ all_plain stars (q s) x.tolerance k l (product s).ok
-          ∙ sym (adds-passed (by_index x.floor x.tolerance) (q s) stars x.tolerance x.i k x.j r.before.before.if-j-i.false
+          ∙ sym (adds-passed (by_index x.floor x.tolerance) (q s) stars x.tolerance x.i k x.j c.if-j-i.false
           (le-leb x.floor (raised (q s) - x.tolerance) h)));
     }
 

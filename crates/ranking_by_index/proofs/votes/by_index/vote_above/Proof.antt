@@ -36,31 +36,28 @@ loop-holds c = (omega arith, refl, λ stars h e k. sum-empty _ _)
 
 vote-requires : tie.Need-vote-requires invariant-loop decreases-loop
 vote-requires c κs =
-    let l = c.before.before in
-    let t = l.before.before in
-    let s = t.before in
-    let x = s.args in
-    let w = s.requires.0 in
-    let b : Bytes x.index.now = λ n. (t.shared_slice_known-1.given n).fits in
-    let p = s.requires.1.1.1.1 in
-    let n : l.loop-j.j ≤ 8 = omega (arith, s.requires.1.0.0) in (
+    let x = c.args in
+    let w = c.requires.0 in
+    let b : Bytes x.index.now = λ n. (c.shared_slice_known-1.given n).fits in
+    let p = c.requires.1.1.1.1 in
+    let n : c.loop-j.j ≤ 8 = omega (arith, c.requires.1.0.0) in (
       index-usable w.stars x.floor x.index.now w.listed b w.right,
       (
         index-few w.stars x.floor x.index.now w.listed b w.right,
         (
-          omega (arith, s.requires.1.0.1),
+          omega (arith, c.requires.1.0.1),
           (
-            s.requires.1.1.0,
+            c.requires.1.1.0,
             (
-              s.requires.1.1.1.0,
+              c.requires.1.1.1.0,
               (
-                l.loop-j.invariant.1 ∙ p.0,
+                c.loop-j.invariant.1 ∙ p.0,
                 λ k.
                     omega (
                       arith,
-                      l.loop-j.invariant.2 w.stars w.listed w.right k,
+                      c.loop-j.invariant.2 w.stars w.listed w.right k,
                       p.1 k,
-                      sum_bound 512 l.loop-j.j (part x.products.now x.i x.tolerance x.floor w.stars k)
+                      sum_bound 512 c.loop-j.j (part x.products.now x.i x.tolerance x.floor w.stars k)
                           (λ j h. adds-most (by_index x.floor x.tolerance) (get_or x.products.now j (pos 0)) w.stars x.tolerance x.i k j
                           w.listed.few),
                     ),
@@ -79,17 +76,16 @@ loop-less c = search rules
 
 loop-again : tie.Need-loop-j-preserved invariant-loop decreases-loop
 loop-again c =
-    let w = c.before.before.vote in
-    let l = c.before.before.before.before.before in
-    let x = l.before.before.before.args in (
+    let w = c.vote in
+    let x = c.args in (
       omega arith,
-      w.auto.1.1.1.1.1.1.0 ∙ l.loop-j.invariant.1,
+      w.auto.1.1.1.1.1.1.0 ∙ c.loop-j.invariant.1,
       λ stars h e k.
           omega (
             arith,
             w.ensures.added stars h e k,
-            l.loop-j.invariant.2 stars h e k,
-            sum-next l.loop-j.j (part x.products.now x.i x.tolerance x.floor stars k),
+            c.loop-j.invariant.2 stars h e k,
+            sum-next c.loop-j.j (part x.products.now x.i x.tolerance x.floor stars k),
           ),
     )
 
@@ -98,12 +94,11 @@ same_length c = search rules
 
 returns : tie.Need-returns invariant-loop decreases-loop
 returns c =
-    let l = c.before in
-    let x = l.before.before.before.args in
-    let d : l.loop-j.j ≡ x.count = omega arith in
+    let x = c.args in
+    let d : c.loop-j.j ≡ x.count = omega arith in
     record {
       added = λ stars h e k.
-          l.loop-j.invariant.2 stars h e k ∙ ap (λ (n : ℕ). get_or x.votes.now k 0 + n)
+          c.loop-j.invariant.2 stars h e k ∙ ap (λ (n : ℕ). get_or x.votes.now k 0 + n)
           (ap (λ (n : ℕ). sum_to n (part x.products.now x.i x.tolerance x.floor stars k)) d
           ∙ sym (by-sum (by_index x.floor x.tolerance) (setting x.products.now x.count x.i stars x.tolerance) k));
     }

@@ -33,7 +33,7 @@ first-from-requires c κs = search rules
 loop-holds : tie.Need-loop-i-init invariant-loop decreases-loop
 loop-holds c =
     let f = c.first_from-i.ensures in
-    let x = c.before.before.before.args in (
+    let x = c.args in (
       omega arith,
       f.0,
       refl,
@@ -53,19 +53,17 @@ same_length c = search rules
 returns : tie.Need-returns-then-upper-high invariant-loop decreases-loop
 unfolding span_votes
 returns c =
-    let h = c.before.high.ensures in
-    let l = c.before.before.before in
-    let s = l.before.before.before.before in
-    let x = s.args in
-    let i = l.loop-i.i in
+    let h = c.high.ensures in
+    let x = c.args in
+    let i = c.loop-i.i in
     let n = length x.index.now / 12 in
     λ k.
     omega (
       arith,
-      l.loop-i.invariant.3 k,
+      c.loop-i.invariant.3 k,
       sum-rest i n (gives x.index.now x.lower x.upper k) (omega arith)
           (λ j p q. given_above x.lower x.upper k (high_at x.index.now j) (low_at x.index.now j)
-          (omega (arith, s.requires.0.rising i j p q, c.if-upper-high.true))),
+          (omega (arith, c.requires.0.rising i j p q, c.if-upper-high.true))),
     )
 
 low-requires : tie.Need-low-requires invariant-loop decreases-loop
@@ -73,19 +71,17 @@ low-requires c κs = search rules
 
 vote-both-requires : tie.Need-vote_both-requires invariant-loop decreases-loop
 vote-both-requires c κs =
-    let l = c.before.before.before.before.before in
-    let s = l.before.before.before.before in
-    let x = s.args in
+    let x = c.args in
     let e = c.low.ensures in
-    let i = l.loop-i.i in
+    let i = c.loop-i.i in
     let j : i < length x.index.now / 12 = omega arith in (
-      (omega (arith, e, s.requires.0.first i j, s.requires.1.0), omega (arith, e, s.requires.0.second i j, s.requires.1.0)),
+      (omega (arith, e, c.requires.0.first i j, c.requires.1.0), omega (arith, e, c.requires.0.second i j, c.requires.1.0)),
       λ k.
           omega (
             arith,
-            l.loop-i.invariant.3 k,
-            s.requires.1.1.1 k,
-            s.requires.1.1.0,
+            c.loop-i.invariant.3 k,
+            c.requires.1.1.1 k,
+            c.requires.1.1.0,
             sum-most i 0 (gives x.index.now x.lower x.upper k)
                 (λ n. given-most x.lower x.upper k (high_at x.index.now n) (low_at x.index.now n)),
           ),
@@ -99,24 +95,22 @@ loop-less c = search rules
 
 loop-again : tie.Need-loop-i-preserved invariant-loop decreases-loop
 loop-again c =
-    let w = c.before.before.vote_both in
-    let e = c.before.before.before.low.ensures in
-    let t = c.before.before.before.before.before in
-    let h = t.before.high.ensures in
-    let l = t.before.before.before in
-    let d = l.before.first_from-i.ensures in
-    let x = l.before.before.before.before.args in
-    let i = l.loop-i.i in
-    let b : x.lower ≤ high_at x.index.now i = d.1.1 i l.loop-i.invariant.0 (omega arith) in
-    let a : high_at x.index.now i ≤ x.upper = omega (arith, t.if-upper-high.false) in (
+    let w = c.vote_both in
+    let e = c.low.ensures in
+    let h = c.high.ensures in
+    let d = c.first_from-i.ensures in
+    let x = c.args in
+    let i = c.loop-i.i in
+    let b : x.lower ≤ high_at x.index.now i = d.1.1 i c.loop-i.invariant.0 (omega arith) in
+    let a : high_at x.index.now i ≤ x.upper = omega (arith, c.if-upper-high.false) in (
       omega arith,
       omega arith,
-      w.auto.0 ∙ l.loop-i.invariant.2,
+      w.auto.0 ∙ c.loop-i.invariant.2,
       λ k.
           omega (
             arith,
             w.ensures k,
-            l.loop-i.invariant.3 k,
+            c.loop-i.invariant.3 k,
             sum-next i (gives x.index.now x.lower x.upper k),
             given-in x.lower x.upper k (high_at x.index.now i) (low_at x.index.now i) b a,
             ap (named k) e,
@@ -129,10 +123,9 @@ same-length-2 c = search rules
 returns-2 : tie.Need-returns invariant-loop decreases-loop
 unfolding span_votes
 returns-2 c =
-    let l = c.before in
-    let x = l.before.before.before.before.args in
-    let e : l.loop-i.i ≡ length x.index.now / 12 = omega arith in
-    λ k. l.loop-i.invariant.3 k ∙ ap (λ (n : ℕ). get_or x.votes.now k 0 + sum_to n (gives x.index.now x.lower x.upper k)) e
+    let x = c.args in
+    let e : c.loop-i.i ≡ length x.index.now / 12 = omega arith in
+    λ k. c.loop-i.invariant.3 k ∙ ap (λ (n : ℕ). get_or x.votes.now k 0 + sum_to n (gives x.index.now x.lower x.upper k)) e
 
 pub walk_spec : {M : Type 1} → statement M
 walk_spec =

@@ -23,7 +23,7 @@ slice-read-votes : tie.Need-bounds-votes-a
 slice-read-votes c = search rules
 
 add-votes : tie.Need-overflow_add-votes
-add-votes c = omega (arith, c.before.requires.1 (c.before.args.ends / 65536))
+add-votes c = omega (arith, c.requires.1 (c.args.ends / 65536))
 
 slice-write-votes : tie.Need-bounds-votes-a-2
 slice-write-votes c = search rules
@@ -36,10 +36,9 @@ slice-read-votes-2 c = search rules
 
 add-votes-2 : tie.Need-overflow_add-votes-2
 add-votes-2 c =
-    let s = c.before.before in
-    let x = s.args in
+    let x = c.args in
     let b = x.ends % 65536 in
-    omega (arith, s.requires.1 b, raised_at x.votes.now (x.ends / 65536) b s.requires.0.0, one-most (eqb b (x.ends / 65536)))
+    omega (arith, c.requires.1 b, raised_at x.votes.now (x.ends / 65536) b c.requires.0.0, one-most (eqb b (x.ends / 65536)))
 
 slice-write-votes-2 : tie.Need-bounds-votes-b-2
 slice-write-votes-2 c = search rules
@@ -50,13 +49,12 @@ same_length c = search rules
 returns : tie.Need-returns
 unfolding named
 returns c =
-    let s = c.before.before in
-    let x = s.args in
+    let x = c.args in
     let a = x.ends / 65536 in
     let b = x.ends % 65536 in
     let l = x.votes.now in
     let m = set l a (get_or l a 0 + 1) in
-    λ k. omega (arith, raised_at l a k s.requires.0.0, raised_at m b k (rw length-set s.requires.0.1))
+    λ k. omega (arith, raised_at l a k c.requires.0.0, raised_at m b k (rw length-set c.requires.0.1))
 
 pub vote_both_spec : {M : Type 1} → statement M
 vote_both_spec =
