@@ -25,10 +25,10 @@ put-vector-requires-3 c κs = search rules
 
 returns : tie.Need-returns
 returns c =
-    let a = c.before.before.before.args in
-    c.put_vector-first.ensures
+    let a = c.args in
+    c.put_vector.ensures
     ∙ ap (λ (xs : List ℤ). with_vector xs (a.at + 6) a.matrix.row2)
-    (c.before.put_vector-second.ensures ∙ ap (λ (xs : List ℤ). with_vector xs (a.at + 3) a.matrix.row1) c.before.before.put_vector-first.ensures)
+    (c.put_vector-second.ensures ∙ ap (λ (xs : List ℤ). with_vector xs (a.at + 3) a.matrix.row1) c.put_vector-first.ensures)
 
 pub put_matrix_spec : {M : Type 1} → statement M
 put_matrix_spec =
