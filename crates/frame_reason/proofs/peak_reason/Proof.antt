@@ -1,7 +1,6 @@
 -- `frame_reason::peak_reason` meets its contract: the reason of each kind that a peak can have. Assumes nothing.
 use borrow.Author.Rules.{rules}
 use mathlib.Core.Bool.{Bool, true, false, cond}
-use mathlib.Core.Logic.{◌⊎◌, ⊎_elim}
 use mathlib.Core.Path.{◌≡◌, refl, sym, ap, ◌∙◌}
 use mathlib.Core.List.{List}
 use Prim.Native.Nat.{ℕ, ◌<◌}
@@ -38,8 +37,12 @@ abbrev tag : Kind → ℕ
 tag k = declared.tag_of enum.the_type k
 
 -- a kind that stands before lone
-below : (t : ℕ) → (t ≡ 0) ⊎ ((t ≡ 1) ⊎ (t ≡ 2)) → t < 3
-below t = ⊎_elim (λ e. omega arith) (⊎_elim (λ e. omega arith) (λ e. omega arith))
+below : (k : Kind) → (k ≡ kinds.Lone → ⊥) → ((c : Centroid) → k ≡ kinds.Measured c → ⊥) → tag k < 3
+below kinds.Dark f g = omega arith
+below kinds.Beaten f g = omega arith
+below kinds.Edge f g = omega arith
+below kinds.Lone f g = absurd (f refl)
+below (kinds.Measured c) f g = absurd (g c refl)
 
 module _ (samples : List ℕ) (width height threshold row column : ℕ) where
   lone_is : peak_kind samples width height threshold row column ≡ kinds.Lone
@@ -100,7 +103,7 @@ returns-3 c =
     let p = c.before.before in
     let a = p.before.before.args in
     ap Edge c.first_side.ensures
-    ∙ edge-is a.samples.now a.width a.height a.threshold a.row a.column p.peak_kind-kind.result (below _ c.before.match.keys3)
+    ∙ edge-is a.samples.now a.width a.height a.threshold a.row a.column p.peak_kind-kind.result (below _ c.in_default.not-Lone c.in_default.not-Measured)
     p.peak_kind-kind.ensures
 
 pub peak_reason_spec : {M : Type 1} → statement M
