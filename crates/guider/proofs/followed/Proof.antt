@@ -1,7 +1,6 @@
 -- `guider::followed` meets its contract. Assumes nothing.
 use borrow.Author.Rules.{rules}
 use mathlib.Core.Path.{sym, ap, ◌∙◌}
-use borrow.Author.Tests.{not-true, not-false}
 use Rattle.guider_rule.specs.RuleLaws.{guider-keeps, list-keeps}
 use Rattle.guider_rule.specs.Calls.{accepted}
 use Rattle.guider.proofs.followed.Statement.{statement}
@@ -16,19 +15,19 @@ refused-requires c κs = search rules
 returns : tie.Need-returns-then-not-list_ok
 returns c =
     let t = c.before.before.list_ok in
-    rw (sym t.ensures ∙ not-true t.result c.before.if-not-list_ok.true) c.refused.ensures
+    rw (sym t.ensures ∙ c.before.if-not-list_ok.true) c.refused.ensures
 
 after-requires : tie.Need-after-requires
 after-requires c κs =
     let t = c.before.list_ok in
     let g = guider-keeps _ c.before.before.requires in
-    let l = list-keeps _ (sym t.ensures ∙ not-false t.result c.if-not-list_ok.false) in
+    let l = list-keeps _ (sym t.ensures ∙ c.if-not-list_ok.false) in
     (g.few, l.few)
 
 returns-2 : tie.Need-returns
 returns-2 c =
     let t = c.before.before.list_ok in
-    rw (sym t.ensures ∙ not-false t.result c.before.if-not-list_ok.false) (ap accepted c.after.ensures)
+    rw (sym t.ensures ∙ c.before.if-not-list_ok.false) (ap accepted c.after.ensures)
 
 pub followed_spec : {M : Type 1} → statement M
 followed_spec =

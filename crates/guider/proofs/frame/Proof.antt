@@ -1,6 +1,5 @@
 -- `guider::frame` meets its contract: each answer is the case of `guided_of` that its tests choose. Assumes nothing.
 use borrow.Author.Rules.{rules}
-use borrow.Author.Tests.{not-true, not-false}
 use mathlib.Core.Bool.{true, false}
 use mathlib.Core.Path.{◌≡◌, refl, sym, ◌∙◌}
 use Rattle.refusal.specs.declared.Refusal.{Refusal}
@@ -41,7 +40,7 @@ returns : tie.Need-returns-then-not-guider_ok
 returns c =
     let t = c.before.before.guider_ok in
     let a = c.before.before.before.args in
-    both a.guider a.listing (c.refused.ensures ∙ unruly a.guider a.listing (sym t.ensures ∙ not-true t.result c.before.if-not-guider_ok.true))
+    both a.guider a.listing (c.refused.ensures ∙ unruly a.guider a.listing (sym t.ensures ∙ c.before.if-not-guider_ok.true))
 
 enum_told : tie.Need-enum_told-1
 enum_told c = search rules
@@ -52,14 +51,14 @@ enum-told-2 c = search rules
 followed-requires : tie.Need-followed-requires
 followed-requires c κs =
     let t = c.before.before.guider_ok in
-    sym t.ensures ∙ not-false t.result c.before.if-not-guider_ok.false
+    sym t.ensures ∙ c.before.if-not-guider_ok.false
 
 returns-2 : tie.Need-returns-in-Refused
 returns-2 c =
     let t = c.before.before.guider_ok in
     let a = c.before.before.before.args in
     both a.guider a.listing
-    (no-frame a.guider a.listing (sym t.ensures ∙ not-false t.result c.before.if-not-guider_ok.false) c.in-Refused.is)
+    (no-frame a.guider a.listing (sym t.ensures ∙ c.before.if-not-guider_ok.false) c.in-Refused.is)
 
 returns-3 : tie.Need-returns-in-Accepted
 returns-3 c =
@@ -67,7 +66,7 @@ returns-3 c =
     let a = c.before.before.before.before.args in
     both a.guider a.listing
     (c.followed.ensures
-    ∙ seen a.guider a.listing (sym t.ensures ∙ not-false t.result c.before.before.if-not-guider_ok.false) c.before.in-Accepted.is)
+    ∙ seen a.guider a.listing (sym t.ensures ∙ c.before.before.if-not-guider_ok.false) c.before.in-Accepted.is)
 
 pub frame_spec : {M : Type 1} → statement M
 frame_spec =

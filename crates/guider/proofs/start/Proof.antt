@@ -1,6 +1,5 @@
 -- `guider::start` meets its contract: each answer is the case of `started_of` that the rule chooses. Assumes nothing.
 use borrow.Author.Rules.{rules}
-use borrow.Author.Tests.{not-true, not-false}
 use mathlib.Core.Bool.{true, false}
 use mathlib.Core.List.{List}
 use mathlib.Core.Path.{◌≡◌, sym, ap, ◌∙◌}
@@ -46,7 +45,7 @@ returns c =
     let m = c.before.before.before.guider_of-guider in
     let a = c.before.before.before.before.args in
     unmet a.half a.stars a.count c.unmade.ensures (sym (ap guider_ok m.ensures) ∙ sym t.ensures
-    ∙ not-true t.result c.before.if-not-guider_ok.true)
+    ∙ c.before.if-not-guider_ok.true)
 
 returns-2 : tie.Need-returns
 unfolding Meets
@@ -54,7 +53,7 @@ returns-2 c =
     let t = c.before.guider_ok in
     let m = c.before.before.guider_of-guider in
     let a = c.before.before.before.args in
-    met a.half a.stars a.count (ap accepted m.ensures) (sym (ap guider_ok m.ensures) ∙ sym t.ensures ∙ not-false t.result c.if-not-guider_ok.false)
+    met a.half a.stars a.count (ap accepted m.ensures) (sym (ap guider_ok m.ensures) ∙ sym t.ensures ∙ c.if-not-guider_ok.false)
 
 pub start_spec : {M : Type 1} → statement M
 start_spec = tie.close (tie.spec guider-of-requires guider-ok-requires unmade-requires returns returns-2)

@@ -64,7 +64,7 @@ returns-2 : tie.Need-returns-then-sight-ne1
 returns-2 c =
     let s = c.before.before.before.before.before.before in
     let a = s.args in
-    let k = c.before.before.before.look in
+    let k = c.before.before.before.look-sight in
     c.missed.ensures ∙ not-one a.guider a.report a.i a.guide s.requires.2 (omega arith) k.result k.ensures c.before.if-sight-ne1.true
 
 is-shared-requires : tie.Need-is_shared-requires
@@ -77,7 +77,7 @@ returns-3 : tie.Need-returns-then-is_shared
 returns-3 c =
     let s = c.before.before.before.before.before.before.before.before.before in
     let a = s.args in
-    let k = c.before.before.before.before.before.before.look in
+    let k = c.before.before.before.before.before.before.look-sight in
     let h = c.before.before.is_shared in
     c.missed-then-is_shared.ensures
     ∙ not-alone a.guider a.report a.i a.guide s.requires.2 (omega arith) k.result k.ensures c.before.before.before.before.if-sight-ne1.false
@@ -87,7 +87,7 @@ returns-4 : tie.Need-returns
 returns-4 c =
     let s = c.before.before.before.before.before.before.before.before in
     let a = s.args in
-    let k = c.before.before.before.before.before.look in
+    let k = c.before.before.before.before.before.look-sight in
     let h = c.before.is_shared in
     alone a.guider a.report a.i a.guide s.requires.2 (omega arith) k.result k.ensures c.before.before.before.if-sight-ne1.false
     (sym h.ensures ∙ c.if-is_shared.false)

@@ -54,9 +54,9 @@ loop-again c =
       omega arith,
       below_more _ _ l.invariant.1
           (⊎_elim
-          (λ w. tests.and-false other claimed (inr (sym w.2.ensures ∙ w.3.left)))
-          (λ w. tests.and-false other claimed (inl (ap not (eq-eqb _ _ w.left))))
-          c.if-j-i.branch),
+          (λ w. tests.and-false other claimed (inr (sym w.is_claimed.ensures ∙ w.if-is_claimed.false)))
+          (λ w. tests.and-false other claimed (inl (ap not (eq-eqb _ _ w.if-j-i.false))))
+          c.if-j-i.branch-raw),
     )
 
 returns-2 : tie.Need-returns invariant-loop decreases-loop

@@ -55,13 +55,13 @@ loop-again c =
     let m = number-next l.k f in
     ⊎_elim
     (λ w.
-    let t = e ∙ w.0.taken in
+    let t = e ∙ w.if-in_box.true in
     let o : one (f l.k) ≡ 1 = ap one t in
-    (omega arith, omega arith, omega arith, λ _. (omega arith, ap f w.2 ∙ t)))
+    (omega arith, omega arith, omega arith, λ _. (omega arith, ap f w.last-is ∙ t)))
     (λ w.
-    let o : one (f l.k) ≡ 0 = ap one (e ∙ w.0.left) in
-    (omega arith, omega arith, omega arith, λ h. let q = l.invariant.3 (omega arith) in (omega arith, ap f w.2 ∙ q.1)))
-    c.if-in_box.branch
+    let o : one (f l.k) ≡ 0 = ap one (e ∙ w.if-in_box.false) in
+    (omega arith, omega arith, omega arith, λ h. let q = l.invariant.3 (omega arith) in (omega arith, ap f w.last-is ∙ q.1)))
+    c.if-in_box.branch-raw
 
 mul-found : tie.Need-offset_bounds-stars-last invariant-loop decreases-loop
 mul-found c = search rules

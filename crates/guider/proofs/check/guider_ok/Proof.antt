@@ -4,7 +4,7 @@ use mathlib.Core.Path.{◌≡◌, refl, sym, ◌∙◌}
 use mathlib.Core.Bool.{true, false}
 use Prim.Native.Nat.{◌≤◌, ◌-◌}
 use native.Mathlib.Omega.{arith}
-use borrow.Author.Tests.{le-leb, lt-leb, not-true, not-false}
+use borrow.Author.Tests.{le-leb, lt-leb}
 use Rattle.lists.specs.Tests.{all}
 use Rattle.lists.specs.TestsLaws as tests
 use Rattle.guider_rule.specs.Rule.{guide_ok, guider_ok}
@@ -60,7 +60,7 @@ returns-3 c =
     let g = c.before.before.before.before.before.before.before.before.before.before.before.before.before.args.guider in
     let t : all g.count (guide_ok g) ≡ false =
     tests.all-false _ _ c.before.before.before.before.before.before.loop-i.i (omega arith) (sym (told c.before)
-    ∙ not-true c.before.guide_ok.result c.if-not-guide_ok.true) in
+    ∙ c.if-not-guide_ok.true) in
     simp (
       le-leb _ _ c.before.before.before.before.before.before.before.before.before.before.before.if-guider-gt-WIDEST.false,
       le-leb _ _ c.before.before.before.before.before.before.before.before.before.if-guider-gt4.false,
@@ -77,7 +77,7 @@ loop-again : tie.Need-loop-i-preserved invariant-loop decreases-loop
 loop-again c = (
   omega arith,
   tests.all_more _ _ c.before.before.before.before.before.before.loop-i.invariant.1 (sym (told c.before)
-      ∙ not-false c.before.guide_ok.result c.if-not-guide_ok.false),
+      ∙ c.if-not-guide_ok.false),
 )
 
 returns-4 : tie.Need-returns invariant-loop decreases-loop

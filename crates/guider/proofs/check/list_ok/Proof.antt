@@ -4,7 +4,7 @@ use mathlib.Core.Path.{◌≡◌, refl, sym, ◌∙◌}
 use mathlib.Core.Bool.{true, false}
 use Prim.Native.Nat.{◌≤◌, ◌-◌}
 use native.Mathlib.Omega.{arith}
-use borrow.Author.Tests.{le-leb, lt-leb, not-true, not-false}
+use borrow.Author.Tests.{le-leb, lt-leb}
 use Rattle.lists.specs.Tests.{all}
 use Rattle.lists.specs.TestsLaws as tests
 use Rattle.guider_rule.specs.Guider.{star_at}
@@ -41,7 +41,7 @@ returns-2 c =
     let f = c.before.on_frame in
     let r = c.before.before.before.before.before.before.before.before.before.args.report in
     let t : all r.count (λ m. on_frame (star_at r m).x (star_at r m).y) ≡ false =
-    tests.all-false _ _ c.before.before.before.before.before.loop-k.k (omega arith) (sym f.ensures ∙ not-true f.result c.if-not-on_frame.true) in
+    tests.all-false _ _ c.before.before.before.before.before.loop-k.k (omega arith) (sym f.ensures ∙ c.if-not-on_frame.true) in
     simp (le-leb _ _ c.before.before.before.before.before.before.before.if-report-gt8.false, t)
 
 add-k : tie.Need-overflow_add-k invariant-loop decreases-loop
@@ -53,7 +53,7 @@ loop-less c = search rules
 loop-again : tie.Need-loop-k-preserved invariant-loop decreases-loop
 loop-again c =
     let f = c.before.on_frame in
-    (omega arith, tests.all_more _ _ c.before.before.before.before.before.loop-k.invariant.1 (sym f.ensures ∙ not-false f.result c.if-not-on_frame.false))
+    (omega arith, tests.all_more _ _ c.before.before.before.before.before.loop-k.invariant.1 (sym f.ensures ∙ c.if-not-on_frame.false))
 
 returns-3 : tie.Need-returns invariant-loop decreases-loop
 unfolding list_ok
