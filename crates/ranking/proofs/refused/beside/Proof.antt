@@ -4,7 +4,6 @@ use mathlib.Core.Path.{◌≡◌, sym, ◌∙◌}
 use native.Mathlib.Nat.{mul-le-mul}
 use native.Mathlib.Omega.{arith}
 use borrow.Author.Rules.{rules}
-use borrow.Author.Tests.{not-true, not-false}
 use Rattle.camera_direction.specs.List.{list_ok}
 use Rattle.camera_direction.specs.ListLaws.{ok-directions}
 use Rattle.ranking.specs.RefusalSteps.{list-refused, tolerance-refused, room-refused, none-refused}
@@ -13,7 +12,7 @@ use Rattle.ranking.proofs.refused.beside.Tie as tie
 
 -- the list keeps its rule
 kept : (c : tie.Else-not-list_ok) → list_ok c.args.directions.now ≡ true
-kept c = sym c.list_ok.ensures ∙ not-false c.list_ok.result c.if-not-list_ok.false
+kept c = sym c.list_ok.ensures ∙ c.if-not-list_ok.false
 
 list-ok-requires : tie.Need-list_ok-requires
 list-ok-requires c κs = search rules
@@ -24,7 +23,7 @@ plain-requires c κs = search rules
 returns : tie.Need-returns-then-not-list_ok
 returns c =
     let d = c.list_ok in
-    c.plain.ensures ∙ sym (list-refused _ _ _ _ (sym d.ensures ∙ not-true d.result c.if-not-list_ok.true))
+    c.plain.ensures ∙ sym (list-refused _ _ _ _ (sym d.ensures ∙ c.if-not-list_ok.true))
 
 plain-requires-2 : tie.Need-plain-requires-then-tolerance-gt-LARGEST_TOLERANCE
 plain-requires-2 c κs = search rules
