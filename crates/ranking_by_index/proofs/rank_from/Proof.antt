@@ -1,6 +1,5 @@
 -- `ranking_by_index::rank_from` meets its contract: 17 first, and behind it what the right index gives. Assumes nothing.
 use mathlib.Core.Path.{◌≡◌, sym, ap, ◌∙◌}
-use borrow.Author.Tests.{not-true, not-false}
 use lib.IntN.{ℤ}
 use lib.ListN.{length}
 use mir.Syntax.{w64}
@@ -21,7 +20,7 @@ start c = c.before.before.before
 tested : (c : tie.After-matches) → let a = (start c).args in c.matches.result ≡ is_index a.stars.now a.floor a.index.now
 tested c =
     let s = start c in
-    c.matches.ensures ∙ ap (λ (f : ℤ). is_index s.args.stars.now f s.args.index.now) (to_z-of_z w64 s.args.floor s.fits.floor)
+    c.matches.ensures ∙ ap (λ (f : ℤ). is_index s.args.stars.now f s.args.index.now) (to_z-of_z w64 s.args.floor s.ranges.floor)
 
 matches-requires : tie.Need-matches-requires
 matches-requires c κs = search rules
@@ -34,7 +33,7 @@ returns c =
     let d = c.before.before in
     let a = (start d).args in
     let e = wrong-from a.directions.now a.stars.now a.index.now a.floor a.tolerance (length a.room.now)
-    (sym (tested d) ∙ not-true c.matches.result c.if-not-matches.true) in
+    (sym (tested d) ∙ c.if-not-matches.true) in
     (c.plain.ensures ∙ sym e, sym (refused-from a.directions.now a.stars.now a.index.now a.floor a.tolerance a.room.now _ e))
 
 rank-right-requires : tie.Need-rank_right-requires
@@ -43,8 +42,8 @@ rank-right-requires c κs =
     let s = start d in
     let a = s.args in (
       s.requires,
-      index-true a.stars.now a.floor a.index.now (sym (tested d) ∙ not-false c.matches.result c.if-not-matches.false)
-          ∙ ap (index_of a.stars.now) (sym (to_z-of_z w64 s.args.floor s.fits.floor)),
+      index-true a.stars.now a.floor a.index.now (sym (tested d) ∙ c.if-not-matches.false)
+          ∙ ap (index_of a.stars.now) (sym (to_z-of_z w64 s.args.floor s.ranges.floor)),
     )
 
 same_length : tie.Need-shape_of-room
@@ -56,9 +55,9 @@ returns-2 c =
     let s = start w.before.before.before in
     let a = s.args in (
       c.rank_right.ensures.0 ∙ ap (λ (f : ℤ). outcome_from a.directions.now a.stars.now a.index.now f a.tolerance (length a.room.now))
-          (to_z-of_z w64 s.args.floor s.fits.floor),
+          (to_z-of_z w64 s.args.floor s.ranges.floor),
       c.rank_right.ensures.1 ∙ ap (λ (f : ℤ). room_from a.directions.now a.stars.now a.index.now f a.tolerance a.room.now)
-          (to_z-of_z w64 s.args.floor s.fits.floor),
+          (to_z-of_z w64 s.args.floor s.ranges.floor),
     )
 
 pub rank_from_spec : {M : Type 1} → statement M

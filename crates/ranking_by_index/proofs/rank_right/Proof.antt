@@ -51,7 +51,7 @@ index-from r =
     let a = s.args in
     s.requires.1
     ∙ sym (index_is a.stars.now a.floor)
-    ∙ ap (bytes_from a.stars.now) (sym (r.raise-raised.ensures ∙ ap raised (to_z-of_z w64 a.floor s.fits.floor)))
+    ∙ ap (bytes_from a.stars.now) (sym (r.raise-raised.ensures ∙ ap raised (to_z-of_z w64 a.floor s.ranges.floor)))
 
 -- ---- the needs
 

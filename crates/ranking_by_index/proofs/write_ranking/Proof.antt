@@ -40,10 +40,10 @@ mul-write-row c = omega (arith, fits c)
 sub-write-row : tie.Need-slice_bounds-write_row-count invariant-loop decreases-loop
 sub-write-row c = omega (arith, fits c)
 
-part-write-row-start : tie.Need-slice-bounds-write-row-start invariant-loop decreases-loop
+part-write-row-start : tie.Need-slice_bounds-write_row-start invariant-loop decreases-loop
 part-write-row-start c = omega (arith, fits c)
 
-part-write-row-end : tie.Need-slice-bounds-write-row-end invariant-loop decreases-loop
+part-write-row-end : tie.Need-slice_bounds-write_row-end invariant-loop decreases-loop
 part-write-row-end c = omega (arith, fits c)
 
 write-row-requires : tie.Need-write_row-requires invariant-loop decreases-loop
@@ -68,8 +68,8 @@ loop-again c =
     let n = c.loop-i.i * m in
     let w = c.write_row in (
       omega arith,
-      back-length c.loop-i.room w.new.1.1.1.1.1.1.0 n (n + m - n) (omega arith) w.auto.1.1.1.1.1.1.0 ∙ c.loop-i.invariant.1,
-      rows_more a.directions.now a.stars.now a.tolerance a.room.now c.loop-i.room w.new.1.1.1.1.1.1.0 c.loop-i.i c.loop-i.invariant.2
+      back-length c.loop-i.room w.new.row n (n + m - n) (omega arith) w.auto.row ∙ c.loop-i.invariant.1,
+      rows_more a.directions.now a.stars.now a.tolerance a.room.now c.loop-i.room w.new.row c.loop-i.i c.loop-i.invariant.2
           w.ensures,
     )
 

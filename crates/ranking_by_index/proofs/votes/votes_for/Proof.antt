@@ -22,7 +22,7 @@ by d =
 indexed : (c : tie.After-vote_above)
     → let d = c.before.before.before in
     let x = c.args in
-    (k : ℕ) → get_or c.vote_above.new.1.1.1.1.1.1.0 k 0 ≡ votes_by (by_index x.floor x.tolerance) (by d) k
+    (k : ℕ) → get_or c.vote_above.new.votes k 0 ≡ votes_by (by_index x.floor x.tolerance) (by d) k
 indexed c k =
     omega (arith, c.vote_above.ensures.added c.args.stars.now c.requires.1.0 c.requires.1.1.1.1 k, at-zeros {A = ℕ} 0 512 k)
 
@@ -36,20 +36,19 @@ slice-aggregate-vote-above-2 : tie.Need-slice_bounds-vote_above-end-2
 slice-aggregate-vote-above-2 c = search rules
 
 vote-above-requires : tie.Need-vote_above-requires
-vote-above-requires c κs =
+vote-above-requires c κs = (
+  record { stars = c.args.stars.now; listed = c.requires.1.0; right = c.requires.1.1.1.1 },
+  (
+    (c.requires.0.few, search rules),
     (
-      record { stars = c.args.stars.now; listed = c.requires.1.0; right = c.requires.1.1.1.1 },
+      c.products_of-products.ensures.1,
       (
-        (c.requires.0.few, search rules),
-        (
-          c.products_of-products.ensures.1,
-          (
-            c.requires.1.1.1.0,
-            (length-replicate {A = ℕ} 512 0, λ k. omega (arith, at-zeros {A = ℕ} 0 512 k)),
-          ),
-        ),
+        c.requires.1.1.1.0,
+        (length-replicate {A = ℕ} 512 0, λ k. omega (arith, at-zeros {A = ℕ} 0 512 k)),
       ),
-    )
+    ),
+  ),
+)
 
 slice-aggregate-vote-below : tie.Need-slice_bounds-vote_below-end
 slice-aggregate-vote-below c = search rules
@@ -70,7 +69,7 @@ vote-below-requires c κs =
           (
             c.requires.1.1.1.0,
             (
-              c.vote_above.auto.1.1.1.1.1.1.0 ∙ length-replicate {A = ℕ} 512 0,
+              c.vote_above.auto.votes ∙ length-replicate {A = ℕ} 512 0,
               λ k. omega (arith, indexed a k, by_most (by_index x.floor x.tolerance) (by d) k c.requires.0.few c.requires.1.0.few),
             ),
           ),
@@ -85,7 +84,7 @@ returns c =
     let d = a.before.before.before in
     let x = c.args in
     all-counted x.directions.now x.stars.now c.products_of-products.result _ x.tolerance x.i c.products_of-products.ensures.0
-    (b.auto.1.1.1.1.1.1.0 ∙ c.vote_above.auto.1.1.1.1.1.1.0 ∙ length-replicate {A = ℕ} 512 0)
+    (b.auto.votes ∙ c.vote_above.auto.votes ∙ length-replicate {A = ℕ} 512 0)
     (λ k.
     let u : votes_by (by_index x.floor x.tolerance) (by d) k + votes_by (by_catalogue x.floor x.tolerance) (by d) k
     ≡ so_far (by d) (triples x.stars.now) k =

@@ -55,7 +55,7 @@ loop-again c =
     let w = c.vote_row in
     let x = c.args in (
       omega arith,
-      w.auto.1.1.1.1.0 ∙ c.loop-b.invariant.1,
+      w.auto.votes ∙ c.loop-b.invariant.1,
       λ k.
           omega (arith, w.ensures k, c.loop-b.invariant.2 k, sum-next c.loop-b.b (row_votes x.stars.now x.lower x.upper k)),
     )

@@ -72,7 +72,7 @@ loop-again c =
     let w = c.vote in
     let x = c.args in (
       omega arith,
-      w.auto.1.1.1.1.1.1.0 ∙ c.loop-j.invariant.1,
+      w.auto.votes ∙ c.loop-j.invariant.1,
       λ k.
           omega (arith, w.ensures k, c.loop-j.invariant.2 k, sum-next c.loop-j.j (part x.products.now x.i x.tolerance x.floor x.stars.now k)),
     )

@@ -55,7 +55,7 @@ loop-again c =
     let w = c.vote_pair in
     let x = c.args in (
       omega arith,
-      w.auto.1.1.1.1.1.0 ∙ c.loop-a.invariant.1,
+      w.auto.votes ∙ c.loop-a.invariant.1,
       λ k.
           omega (arith, w.ensures k, c.loop-a.invariant.2 k, sum-next c.loop-a.a (meets (in_span x.stars.now x.lower x.upper) k x.b)),
     )

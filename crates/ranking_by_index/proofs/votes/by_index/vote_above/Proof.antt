@@ -79,7 +79,7 @@ loop-again c =
     let w = c.vote in
     let x = c.args in (
       omega arith,
-      w.auto.1.1.1.1.1.1.0 ∙ c.loop-j.invariant.1,
+      w.auto.votes ∙ c.loop-j.invariant.1,
       λ stars h e k.
           omega (
             arith,

@@ -105,7 +105,7 @@ loop-again c =
     let a : high_at x.index.now i ≤ x.upper = omega (arith, c.if-upper-high.false) in (
       omega arith,
       omega arith,
-      w.auto.0 ∙ c.loop-i.invariant.2,
+      w.auto.votes ∙ c.loop-i.invariant.2,
       λ k.
           omega (
             arith,
