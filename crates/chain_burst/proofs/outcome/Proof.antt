@@ -12,7 +12,7 @@ use Rattle.chain_burst.proofs.outcome.Tie as tie
 
 -- the sides that the way on has passed
 size-right : (c : tie.Else-not-size_ok) → let a = c.args in size_out a.width a.height ≡ false
-size-right c = sym c.Size-ok.ensures ∙ c.if-not-size_ok.false
+size-right c = sym c.size_ok.ensures ∙ c.if-not-size_ok.false
 
 some : (c : tie.Else-not-size_ok) → let a = c.args in 0 < a.width * a.height
 some c = let a = c.args in size-some a.width a.height (size-right c)
@@ -24,7 +24,7 @@ plain-requires : tie.Need-plain-requires
 plain-requires c κs = search rules
 
 returns : tie.Need-returns-then-not-size_ok
-returns c = c.plain.ensures ∙ sym (size-refused _ _ _ _ (sym c.Size-ok.ensures ∙ c.if-not-size_ok.true))
+returns c = c.plain.ensures ∙ sym (size-refused _ _ _ _ (sym c.size_ok.ensures ∙ c.if-not-size_ok.true))
 
 mul-size : tie.Need-overflow_mul-size
 mul-size c = let a = c.args in omega (arith, size-most a.width a.height (size-right c))

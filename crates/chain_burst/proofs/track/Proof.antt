@@ -53,7 +53,7 @@ returns c =
     let o = k.before in
     let w = whole o in
     let e = sym c.outcome.ensures ∙ c.in-Refused.is in
-    let q = c.in-Refused.field-0 in
+    let q = c.in-Refused.r in
     let p = in-terms count_answer (sym (refused-answer w q e)) (answers w) in
     (p.0, (p.1, (sym (refused-records w q e), sym (refused-room w q e))))
 

@@ -62,10 +62,10 @@ mul-track c = omega (arith, fits c)
 sub-track : tie.Need-slice_bounds-track-count invariant-loop decreases-loop
 sub-track c = omega arith
 
-part-track-start : tie.Need-slice-bounds-track-start invariant-loop decreases-loop
+part-track-start : tie.Need-slice_bounds-track-start invariant-loop decreases-loop
 part-track-start c = omega (arith, fits c)
 
-part-track-end : tie.Need-slice-bounds-track-end invariant-loop decreases-loop
+part-track-end : tie.Need-slice_bounds-track-end invariant-loop decreases-loop
 part-track-end c = omega (arith, fits c)
 
 track-requires : tie.Need-track-tracked-requires invariant-loop decreases-loop

@@ -42,12 +42,12 @@ lent r = lent-stars _ _ _ (decoded r).stars-stars.ensures r.records-stars_end.en
 
 -- the room after the ranking
 room-is : (k : tie.After-rank_right) → let r : tie.After-records-stars_end = search rules in let a = (start r).args in
-    k.rank_right.new.1.1.1.1.1.0 ≡ ranked_room a.sighting.report a.bytes.now a.settings a.room.now
+    k.rank_right.new.room ≡ ranked_room a.sighting.report a.bytes.now a.settings a.room.now
 room-is k =
     let r : tie.After-records-stars_end = search rules in
     let s = start r in
     let a = s.args in
-    let f = to_z-of_z w64 a.floor s.fits.floor in
+    let f = to_z-of_z w64 a.floor s.ranges.floor in
     let w = call (sights_of a.sighting.report a.bytes.now a.settings) a.bytes.now a.index.now a.floor a.settings.tolerance
     a.room.now in
     k.rank_right.ensures.1
@@ -98,7 +98,7 @@ rank-right-requires : tie.Need-rank_right-requires
 rank-right-requires c κs =
     let r : tie.After-records-stars_end = search rules in
     let s = start r in
-    let f = to_z-of_z w64 s.args.floor s.fits.floor in (
+    let f = to_z-of_z w64 s.args.floor s.ranges.floor in (
       subst (Listed 512) (sym (lent r)) (valid-listed _ s.requires.0.catalogue),
       s.requires.1.1 ∙ (λ i. index_of (sym (lent r) i) (sym f i)),
     )

@@ -37,7 +37,7 @@ stars-is : (t : tie.After-take_sights-sighting) → let c = whole t in t.stars_o
 stars-is t =
     let s = start t in
     t.stars_outcome-stars.ensures ∙ ap (λ (f : ℤ). first_applying (stars_rows s.args.catalogue.now s.args.index.now f))
-    (to_z-of_z w64 s.args.floor s.fits.floor)
+    (to_z-of_z w64 s.args.floor s.ranges.floor)
 
 -- the code's outcome is that of the rows
 outcome-is : (t : tie.After-take_sights-sighting) {o : Outcome} → t.take_sights-sighting.result.outcome ≡ o → first_applying (refusals_of (whole t)) ≡ o
@@ -75,16 +75,16 @@ located-requires c κs =
       subst (λ (r : Report). Ready r w.chain.catalogue w.chain.settings w.chain.room) (sym (report-is t)) (ready w.chain (accepted-plain w h)),
       (
         ap (λ (x : Sighting). x.directions) t.take_sights-sighting.ensures ∙ ap (λ (r : Report). padded_sights r w.chain.settings) (sym (report-is t)),
-        accepted-right w h ∙ ap (index_of (stars_of w.chain.catalogue)) (sym (to_z-of_z w64 s.args.floor s.fits.floor)),
+        accepted-right w h ∙ ap (index_of (stars_of w.chain.catalogue)) (sym (to_z-of_z w64 s.args.floor s.ranges.floor)),
       ),
     )
 
 returns : tie.Need-returns-in-Refused
 returns c =
     let t : tie.After-take_sights-sighting = search rules in
-    let o : tie.In-Refused-2 = search rules in
+    let o : tie.In-Refused = search rules in
     let e = outcome-is t o.in-Refused.is in
-    let q = o.in-Refused.field-0 in
+    let q = o.in-Refused.r in
     (c.refused.ensures ∙ sym (refused-tracked (whole t) q e), sym (refused-room (whole t) q e))
 
 same_length : tie.Need-shape_of-room

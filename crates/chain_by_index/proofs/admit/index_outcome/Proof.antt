@@ -1,7 +1,6 @@
 -- `chain_by_index::admit::index_outcome` meets its contract: the test's own answer decides. Assumes nothing.
 use mathlib.Core.Path.{◌≡◌, sym, ap, ◌∙◌}
 use borrow.Author.Rules.{rules}
-use borrow.Author.Tests.{not-true, not-false}
 use lib.IntN.{ℤ}
 use mir.Syntax.{w64}
 use mir.ValLaws.{to_z-of_z}
@@ -23,10 +22,10 @@ plain-requires c κs = search rules
 returns : tie.Need-returns-then-not-matches
 returns c =
     let d = c.before.before in
-    c.plain.ensures ∙ sym (wrong-index _ _ _ (sym (tested d) ∙ not-true c.matches.result c.if-not-matches.true))
+    c.plain.ensures ∙ sym (wrong-index _ _ _ (sym (tested d) ∙ c.if-not-matches.true))
 
 returns-2 : tie.Need-returns
-returns-2 c = sym (right-index _ _ _ (sym (tested c.before) ∙ not-false c.matches.result c.if-not-matches.false))
+returns-2 c = sym (right-index _ _ _ (sym (tested c.before) ∙ c.if-not-matches.false))
 
 pub index_outcome_spec : {M : Type 1} → statement M
 index_outcome_spec = tie.close (tie.spec matches-requires plain-requires returns returns-2)

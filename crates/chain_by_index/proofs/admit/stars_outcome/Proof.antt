@@ -34,14 +34,14 @@ abbrev start : tie.In-Count → tie.Start
 start c = c.before.before.before.before
 
 -- so many records: those of a valid catalogue
-valid : (c : tie.In-Count) → Valid (start c).args.bytes.now × (c.in-Count.field-0 ≡ records_in (start c).args.bytes.now)
+valid : (c : tie.In-Count) → Valid (start c).args.bytes.now × (c.in-Count.n ≡ records_in (start c).args.bytes.now)
 valid c = checked-valid _ _ (sym c.check-checked.ensures.0 ∙ c.in-Count.is)
 
 -- the slice that is handed on
-fits : (c : tie.After-stars-numbers) → 3 * c.in-Count.field-0 ≤ length c.stars-numbers.result
+fits : (c : tie.After-stars-numbers) → 3 * c.in-Count.n ≤ length c.stars-numbers.result
 fits c = lent-within _ _ _ c.stars-numbers.ensures (valid c.before).1 (valid c.before).0
 
-lent : (c : tie.After-stars-numbers) → take (3 * c.in-Count.field-0) c.stars-numbers.result ≡ stars_of (start c.before).args.bytes.now
+lent : (c : tie.After-stars-numbers) → take (3 * c.in-Count.n) c.stars-numbers.result ≡ stars_of (start c.before).args.bytes.now
 lent c = lent-stars _ _ _ c.stars-numbers.ensures (valid c.before).1 (valid c.before).0
 
 stars-requires : tie.Need-stars-numbers-requires
@@ -70,7 +70,7 @@ returns-2 c =
     let t = c.before.before in
     let s = start t.before in
     let x = s.args in
-    let f = to_z-of_z w64 x.floor s.fits.floor in
+    let f = to_z-of_z w64 x.floor s.ranges.floor in
     c.index_outcome.ensures
     ∙ (λ i. first_applying (index_rows (lent t i) x.index.now (f i)))
     ∙ sym (stars-joined x.bytes.now x.index.now x.floor (valid-accepted x.bytes.now (valid t.before).0))
