@@ -11,8 +11,9 @@ signed_by half word = cond (ltb word half) (pos word) (negsuc (half + half - 1 -
 abbrev pub half64 : ℕ
 half64 = 9223372036854775808
 
+-- the signed number that has the same 64 bits; `signed_by half64` computes to it
 abbrev pub signed_of : ℕ → ℤ
-signed_of word = signed_by half64 word
+signed_of n = cond (ltb n 9223372036854775808) (pos n) (negsuc (18446744073709551615 - n))
 
 abbrev pub half32 : ℕ
 half32 = 2147483648
