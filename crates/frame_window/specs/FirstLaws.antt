@@ -6,12 +6,11 @@ use Rattle.std.proofs.Math.Path.{refl}
 use Rattle.std.proofs.Common.{ap, ◌∙◌, inl, inr, ⊎_elim, arith}
 use Rattle.std.proofs.Math.Decide.{dec_lt}
 use Rattle.lists.specs.Contradiction.{contradiction}
-use Rattle.lists.specs.TestsLaws.{some_of, none-some, some-true}
 use Rattle.lists.specs.First.{First, first, first-is, first_of}
 use Rattle.frame_window.specs.declared.Beating.{Beating}
 use Rattle.frame_window.specs.declared.Beating.TheVariants.{At, Nothing}
 use Rattle.frame_window.specs.Window.{beats, hits, row_hits, beaten, beating_row, beating_column, first_beating}
-use Rattle.frame_window.specs.Laws.{hit, miss, row-misses, by-pixel, by-none, hit-says, beats-says, says-beats, Earlier, InWindow, Wins}
+use Rattle.frame_window.specs.Laws.{some-here, some-not, some-found, hit, miss, row-misses, by-pixel, by-none, hit-says, beats-says, says-beats, Earlier, InWindow, Wins}
 
 -- ---- as a look in row order meets it
 
@@ -35,7 +34,7 @@ module _ (samples : List ℕ) (width height row column : ℕ) where
       record {
         most = omega arith;
         none = λ j h. row-misses samples width height row column j (λ a b. above j h a);
-        taken = λ _. some_of width (λ c. hits samples width row column r c) c q y;
+        taken = λ _. some-here width c (λ c. hits samples width row column r c) q y;
       } in
       let g : First (λ c. hits samples width row column r c) width c =
       record { most = omega arith; none = λ k h. miss samples width row column r k (λ a b d z. left k h d); taken = λ _. y } in
@@ -97,7 +96,7 @@ module _ (samples : List ℕ) (width height row column : ℕ) where
   none-before-it r c f g j k i o w =
       let y = winner-hits j k i w in
       ⊎_elim
-      (λ l. differ (hits samples width row column j k) y (none-some width (λ c. hits samples width row column j c) (f.none j l) k i.in-column))
+      (λ l. differ (hits samples width row column j k) y (some-not width k (λ c. hits samples width row column j c) (f.none j l) i.in-column))
       (λ l. differ (hits samples width row column j k) y (ap (λ (x : ℕ). hits samples width row column x k) l.0 ∙ g.none k l.1))
       o
 
@@ -106,10 +105,10 @@ module _ (samples : List ℕ) (width height row column : ℕ) where
       FirstAt samples width height row column r (beating_column samples width row column r)
   unfolding beaten
   first-is-there e =
-      let a = some-true height (λ r. row_hits samples width row column r) e in
+      let a = some-found height (λ r. row_hits samples width row column r) e in
       let p = first_below (λ r. row_hits samples width row column r) height a.0 a.1 a.2 in
       let r = beating_row samples width height row column in
-      let b = some-true width (λ c. hits samples width row column r c) p.1 in
+      let b = some-found width (λ c. hits samples width row column r c) p.1 in
       let q = first_below (λ c. hits samples width row column r c) width b.0 b.1 b.2 in
       let h = hit-says samples width height row column r (beating_column samples width row column r) p.0 q.0 q.1 in
       record {

@@ -1,14 +1,51 @@
 -- What `beaten` says: some pixel of the frame, at most 3 rows and columns away, is earlier and at least as large, or is larger; and if none
 -- is, the pixel is not beaten. Assumes nothing.
-use Rattle.std.specs.Prelude.{Bool, ◌&&◌, ◌≡◌, ◌⊎◌, List, ℕ, ◌+◌, ◌-◌, ◌≤◌, ◌<◌, min, ltb, leb}
+use Rattle.std.specs.Prelude.{Bool, ◌&&◌, ◌≡◌, ◌⊎◌, List, ℕ, zero, suc, ◌+◌, ◌-◌, ◌≤◌, ◌<◌, min, ltb, leb, eqb}
 use Rattle.std.proofs.Math.Bool.{true, false, cond}
 use Rattle.std.proofs.Math.Path.{refl}
 use Rattle.std.proofs.Math.Logic.{inl, inr, ⊎_elim}
-use Rattle.std.proofs.Common.{arith}
-use borrow.Author.Tests.{leb-true, le-leb, ltb-true, ltb-false, lt-ltb, le-ltb}
+use Rattle.std.proofs.Common.{ap, not-suc-le-zero, arith}
+use borrow.Author.Tests.{leb-true, le-leb, ltb-true, ltb-false, lt-ltb, le-ltb, eqb-true, eqb-false}
 use Rattle.lists.specs.Contradiction.{contradiction}
-use Rattle.lists.specs.TestsLaws.{both_true, some_of, some-none, some-true}
-use Rattle.frame_window.specs.Window.{at, near, earlier, beats, hits, row_hits, beaten}
+use Rattle.lists.specs.TestsLaws.{both_true}
+use Rattle.frame_window.specs.Window.{some_below, at, near, earlier, beats, hits, row_hits, beaten}
+
+-- ---- a test of every number below a bound
+
+pub some-here : (n k : ℕ) (p : ℕ → Bool) → k < n → p k ≡ true → some_below n p ≡ true
+unfolding some_below
+some-here zero k p l e = absurd (not-suc-le-zero l)
+some-here (suc n) k p l e = go (p n) refl (eqb k n) refl (λ m. some-here n k p m e)
+  where
+    go : (b : Bool) → p n ≡ b → (d : Bool) → eqb k n ≡ d → (k < n → some_below n p ≡ true) → cond b true (some_below n p) ≡ true
+    go true q d r f = refl
+    go false q true r f =
+        let s : p k ≡ p n = ap p (eqb-true k n r) in
+        cc
+    go false q false r f =
+        let s = eqb-false k n r in
+        f (omega arith)
+
+pub some-none : (n : ℕ) (p : ℕ → Bool) → ((k : ℕ) → k < n → p k ≡ false) → some_below n p ≡ false
+unfolding some_below
+some-none zero p f = refl
+some-none (suc n) p f = rw (f n (omega arith)) (some-none n p (λ k l. f k (omega arith)))
+
+pub some-not : (n k : ℕ) (p : ℕ → Bool) → some_below n p ≡ false → k < n → p k ≡ false
+some-not n k p e l = go (p k) refl
+  where
+    go : (b : Bool) → p k ≡ b → b ≡ false
+    go false q = refl
+    go true q = let t = some-here n k p l q in cc
+
+pub some-found : (n : ℕ) (p : ℕ → Bool) → some_below n p ≡ true → (k : ℕ) × (k < n) × (p k ≡ true)
+unfolding some_below
+some-found zero p e = contradiction e
+some-found (suc n) p e = go (p n) refl (λ d. some-found n p d) e
+  where
+    go : (b : Bool) → p n ≡ b → (some_below n p ≡ true → (k : ℕ) × (k < n) × (p k ≡ true)) → cond b true (some_below n p) ≡ true → (k : ℕ) × (k < suc n) × (p k ≡ true)
+    go true q f d = (n, omega arith, q)
+    go false q f d = let r = f d in (r.0, omega arith, r.2)
 
 pub both_false : (a b : Bool) → (a ≡ true → b ≡ false) → a && b ≡ false
 both_false true b f = f refl
@@ -44,8 +81,8 @@ module _ (samples : List ℕ) (width height row column : ℕ) where
       → beats samples width row column r c ≡ true → beaten samples width height row column ≡ true
   unfolding beaten
   by-pixel r c p q s t u v e =
-      some_of height (λ r. row_hits samples width row column r) r p
-      (some_of width (λ c. hits samples width row column r c) c q (hit samples width row column r c s t u v e))
+      some-here height r (λ r. row_hits samples width row column r) p
+      (some-here width c (λ c. hits samples width row column r c) q (hit samples width row column r c s t u v e))
 
   -- none of a row does
   pub row-misses : (r : ℕ) → (row - 3 ≤ r → r < row + 4 → (c : ℕ) → c < min (column + 4) width → column - 3 ≤ c → beats samples width row column r c ≡ false)
@@ -138,8 +175,8 @@ module _ (samples : List ℕ) (width height row column : ℕ) where
   pub beaten-says : beaten samples width height row column ≡ true → BeatenBy samples width height row column
   unfolding beaten
   beaten-says e =
-      let a = some-true height (λ r. row_hits samples width row column r) e in
-      let b = some-true width (λ c. hits samples width row column a.0 c) a.2 in
+      let a = some-found height (λ r. row_hits samples width row column r) e in
+      let b = some-found width (λ c. hits samples width row column a.0 c) a.2 in
       let h = hit-says a.0 b.0 a.1 b.1 b.2 in
       record { r = a.0; c = b.0; near_by = h.0; wins = h.1 }
 

@@ -1,6 +1,6 @@
 -- What the window of a pixel that is not beaten holds: nothing larger than the pixel, and no earlier pixel as large. Assumes nothing.
 use Rattle.std.specs.Prelude.{Bool, true, false, ◌≡◌, refl, List, ℕ, ◌≤◌, ◌<◌, ltb}
-use Rattle.std.proofs.Common.{inl, inr, arith, ltb-true, ltb-false}
+use Rattle.std.proofs.Common.{inl, inr, ltb-true, ltb-false}
 use Rattle.lists.specs.Contradiction.{contradiction}
 use Rattle.frame_window.specs.Window.{at, beaten}
 use Rattle.frame_window.specs.Laws.{Earlier, InWindow, Wins, says-beaten}

@@ -1,9 +1,13 @@
 -- Document 01, "Frame and pixel verdicts": a frame's samples, a pixel's window, and which pixel beats which. Assumes nothing.
-use Rattle.std.specs.Prelude.{Bool, true, false, cond, ◌&&◌, List, ℕ, ◌+◌, ◌*◌, get_or, ltb, leb}
+use Rattle.std.specs.Prelude.{Bool, true, false, cond, ◌&&◌, List, ℕ, zero, suc, ◌+◌, ◌*◌, get_or, ltb, leb}
 use Rattle.lists.specs.First.{first}
-use Rattle.lists.specs.Tests.{some}
 use Rattle.frame_window.specs.declared.Beating.{Beating}
 use Rattle.frame_window.specs.declared.Beating.TheVariants.{At, Nothing}
+
+-- whether p holds of some number below n
+unfoldable pub some_below : ℕ → (ℕ → Bool) → Bool
+some_below zero p = false
+some_below (suc n) p = cond (p n) true (some_below n p)
 
 -- the sample in that row and column: rows follow each other from the top, and columns from the left
 abbrev pub at : List ℕ → ℕ → ℕ → ℕ → ℕ
@@ -28,11 +32,11 @@ hits samples width row column r c = (near row r && near column c) && beats sampl
 
 -- some pixel of row r of the frame does
 abbrev pub row_hits : List ℕ → ℕ → ℕ → ℕ → ℕ → Bool
-row_hits samples width row column r = some width (λ c. hits samples width row column r c)
+row_hits samples width row column r = some_below width (λ c. hits samples width row column r c)
 
 -- some pixel of the frame does
 unfoldable pub beaten : List ℕ → ℕ → ℕ → ℕ → ℕ → Bool
-beaten samples width height row column = some height (λ r. row_hits samples width row column r)
+beaten samples width height row column = some_below height (λ r. row_hits samples width row column r)
 
 -- the first row of the frame that has one, and the first column of a row r
 abbrev pub beating_row : List ℕ → ℕ → ℕ → ℕ → ℕ → ℕ

@@ -6,12 +6,11 @@ use Rattle.std.proofs.Common.{sym, le_trans}
 use Rattle.std.proofs.Math.Nat.{le-max_left, le-max_right}
 use Rattle.std.proofs.Math.Decide.{dec_lt}
 use native.Mathlib.Omega.{arith, max_cases}
-use borrow.Author.Tests.{leb-true, le-leb, lt-leb, lt-ltb, le-ltb, eqb-true, eq-eqb, ne_eqb, not-true, not-false}
+use borrow.Author.Tests.{leb-true, le-leb, lt-ltb, le-ltb, eqb-true, eq-eqb, ne_eqb, not-true, not-false}
 use Rattle.lists.specs.Contradiction.{contradiction}
-use Rattle.lists.specs.Tests.{some}
-use Rattle.lists.specs.TestsLaws.{both_true, some_of, some-true}
-use Rattle.frame_window.specs.Window.{at}
-use Rattle.frame_window.specs.Laws.{both_false}
+use Rattle.lists.specs.TestsLaws.{both_true}
+use Rattle.frame_window.specs.Window.{some_below, at}
+use Rattle.frame_window.specs.Laws.{both_false, some-here, some-found}
 use Rattle.frame_window.specs.neighbours.Neighbours.{adjacent, beside, half, lit, row_lit, lone, largest_of_three, largest_beside}
 
 -- ---- a neighbour, in words
@@ -80,9 +79,9 @@ module _ (samples : List ℕ) (width height threshold row column : ℕ) where
   pub lit-says : lone samples width height threshold row column ≡ false → LitBy samples width height threshold row column
   unfolding lone
   lit-says e =
-      let a = some-true height (λ r. row_lit samples width threshold row column r) (not-false (some height (λ r. row_lit samples width threshold row column r)) e)
+      let a = some-found height (λ r. row_lit samples width threshold row column r) (not-false (some_below height (λ r. row_lit samples width threshold row column r)) e)
       in
-      let b = some-true width (λ c. lit samples width threshold row column a.0 c) a.2 in
+      let b = some-found width (λ c. lit samples width threshold row column a.0 c) a.2 in
       let t = both_true (beside row column a.0 b.0) (leb (half threshold) (at samples width a.0 b.0)) b.2 in
       record { r = a.0; c = b.0; near_by = beside-says width height row column a.0 b.0 a.1 b.1 t.0; reaches = leb-true _ _ t.1 }
 
@@ -92,8 +91,8 @@ module _ (samples : List ℕ) (width height threshold row column : ℕ) where
       let n = b.near_by in
       let t : lit samples width threshold row column b.r b.c ≡ true =
       rw (says-beside width height row column b.r b.c n, le-leb (half threshold) (at samples width b.r b.c) b.reaches) in
-      rw (some_of height (λ r. row_lit samples width threshold row column r) b.r n.in_row
-      (some_of width (λ c. lit samples width threshold row column b.r c) b.c n.in-column t))
+      rw (some-here height b.r (λ r. row_lit samples width threshold row column r) n.in_row
+      (some-here width b.c (λ c. lit samples width threshold row column b.r c) n.in-column t))
 
   -- lone: none does
   pub lone-says : lone samples width height threshold row column ≡ true → (r c : ℕ) → Beside width height row column r c → at samples width r c < half threshold

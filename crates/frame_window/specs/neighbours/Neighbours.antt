@@ -1,7 +1,6 @@
 -- Request T-06: a pixel's eight neighbours, and the pixel that is lone among them. Assumes nothing.
 use Rattle.std.specs.Prelude.{Bool, not, ◌&&◌, List, ℕ, ◌+◌, ◌-◌, ◌/◌, max, leb, eqb}
-use Rattle.lists.specs.Tests.{some}
-use Rattle.frame_window.specs.Window.{at}
+use Rattle.frame_window.specs.Window.{some_below, at}
 
 -- at most 1 apart
 abbrev pub adjacent : ℕ → ℕ → Bool
@@ -21,11 +20,11 @@ lit samples width threshold row column r c = beside row column r c && leb (half 
 
 -- some pixel of row r of the frame is
 abbrev pub row_lit : List ℕ → ℕ → ℕ → ℕ → ℕ → ℕ → Bool
-row_lit samples width threshold row column r = some width (λ c. lit samples width threshold row column r c)
+row_lit samples width threshold row column r = some_below width (λ c. lit samples width threshold row column r c)
 
 -- none of the frame is: none of its neighbours reaches half the threshold
 unfoldable pub lone : List ℕ → ℕ → ℕ → ℕ → ℕ → ℕ → Bool
-lone samples width height threshold row column = not (some height (λ r. row_lit samples width threshold row column r))
+lone samples width height threshold row column = not (some_below height (λ r. row_lit samples width threshold row column r))
 
 -- ---- the largest among the eight of a pixel that has them all (`largest-is` of Laws)
 
