@@ -15,7 +15,7 @@ use Rattle.vectors.specs.Agree.{agreeing}
 use Rattle.refusal.specs.Table.{first_applying}
 use Rattle.refusal.specs.Laws.{Silent}
 use Rattle.lists.specs.First.{first, first_from}
-use Rattle.frame_window.specs.Window.{earlier, beats, beaten}
+use Rattle.frame_window.specs.Window.{some_below, earlier, beats, beaten}
 use Rattle.frame_window.specs.neighbours.Neighbours.{lone}
 use Rattle.frame_centroid.specs.Sums.{sum_below, sumℤ-below}
 use Rattle.frame_centroid.specs.Border.{border_sum}
@@ -67,7 +67,7 @@ first-or-beaten r c = (eqb r 0 && eqb c 0) || eqb (kind_number (kind_of even sid
 
 -- the test of all 49
 all-beaten : all side (λ r. all side (first-or-beaten r)) ≡ true
-unfolding all kind_of peak_kind edge beaten beats earlier some
+unfolding all kind_of peak_kind edge beaten beats earlier some_below
 all-beaten = refl
 
 beaten-kind : (kind : Kind) → eqb (kind_number kind) 1 ≡ true → kind ≡ Beaten
@@ -121,7 +121,7 @@ only {directions} {bytes} {needed} {tolerance} {words} e = (e, λ r h. identifie
 
 -- A to F
 verdicts-hold : AllHold (drop 8 table) → AllHold table
-unfolding table first_applying judgement_of first_over first first_from kind_of peak_kind edge lone beaten beats earlier some
+unfolding table first_applying judgement_of first_over first first_from kind_of peak_kind edge lone beaten beats earlier some_below
     centroid_of brightness shift_x shift_y sum_below sumℤ-below border_sum
 verdicts-hold below = (refl, (refl, (refl, (refl, (refl, (refl, (refl, (rest-beaten, below))))))))
 
@@ -149,7 +149,7 @@ searches-hold below = (only refl, (only refl, (only refl, (only refl, (only refl
 
 -- T to W
 lone-hold : AllHold (drop 23 table)
-unfolding table first_applying judgement_of first_over first first_from kind_of peak_kind edge lone beaten beats earlier some
+unfolding table first_applying judgement_of first_over first first_from kind_of peak_kind edge lone beaten beats earlier some_below
     centroid_of brightness shift_x shift_y sum_below sumℤ-below border_sum
 lone-hold = (refl, (refl, (refl, (refl, tt))))
 
