@@ -1,5 +1,6 @@
 -- The definitions that the contracts of `catalogue` cite, and their laws.
 pub mod Format
+pub mod Signed
 pub mod Rule
 pub mod RuleSteps
 pub mod Check
