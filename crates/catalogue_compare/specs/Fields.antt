@@ -1,25 +1,25 @@
 -- A record's words and the numbers that they stand for: one differs where the other does. Assumes nothing.
-use Rattle.std.specs.Prelude.{◌≡◌, List, ℕ, ◌+◌, ◌*◌, ◌<◌, negsuc, get_or}
+use Rattle.std.specs.Prelude.{◌≡◌, List, ℕ, ◌+◌, ◌*◌, ◌<◌, get_or}
 use Rattle.std.proofs.Common.{sym, ap, subst, ◌∙◌, arith, lt-ltb, le-ltb, to_z, of_z}
 use Rattle.std.proofs.Math.Decide.{dec_lt}
 use Rattle.std.specs.Int.{w32}
 use mir.ValLaws.{of_z-to_z}
-use Rattle.numbers.specs.TwosComplement.{half32, signed32_of, signed_low, signed_high}
 use Rattle.words.specs.NumberLaws.{number-most}
-use Rattle.catalogue.specs.Format.{record_size, component_of, magnitude_of}
+use Rattle.catalogue.specs.Format.{record_size, signed_of, component_of, magnitude_of}
+use Rattle.catalogue.specs.Signed.{signed_low, signed_high}
 use Rattle.catalogue_compare.specs.Changes.{fields, field_of}
 use Rattle.catalogue_compare.specs.DifferLaws.{Other}
 
 -- the number that a word stands for is the one that the machine reads in its bits
-signed-bits : (w : ℕ) → w < 4294967296 → signed32_of w ≡ to_z w32 w
+signed-bits : (w : ℕ) → w < 4294967296 → signed_of w ≡ to_z w32 w
 signed-bits w h = go (dec_lt w 2147483648)
   where
-    go : Dec (w < 2147483648) → signed32_of w ≡ to_z w32 w
-    go (yes l) = signed_low half32 w l ∙ rw (lt-ltb w 2147483648 l)
-    go (no l) = signed_high half32 w (omega arith) ∙ rw (le-ltb w 2147483648 (omega arith)) (ap negsuc (omega arith))
+    go : Dec (w < 2147483648) → signed_of w ≡ to_z w32 w
+    go (yes l) = signed_low w l ∙ rw (lt-ltb w 2147483648 l)
+    go (no l) = signed_high w (omega arith) ∙ rw (lt-ltb w 4294967296 h, le-ltb w 2147483648 (omega arith))
 
 -- so two words that stand for one number are one word
-signed-one : (v w : ℕ) → v < 4294967296 → w < 4294967296 → signed32_of v ≡ signed32_of w → v ≡ w
+signed-one : (v w : ℕ) → v < 4294967296 → w < 4294967296 → signed_of v ≡ signed_of w → v ≡ w
 signed-one v w h k e =
     sym (of_z-to_z w32 v (record { fits = h })) ∙ ap (of_z w32) (sym (signed-bits v h) ∙ e ∙ signed-bits w k) ∙ of_z-to_z w32 w (record { fits = k })
 
@@ -32,15 +32,15 @@ module _ (first : List ℕ) (i : ℕ) (second : List ℕ) (j : ℕ) where
   -- the magnitude is the word behind x, y and z
   pub apart-field : Apart → Other first i second j
   unfolding component_of magnitude_of
-  apart-field (component k h n) = record { k = k; inside = omega arith; apart = λ e. n (ap signed32_of e) }
-  apart-field (magnitude n) = record { k = 3; inside = omega arith; apart = λ e. n (ap signed32_of e) }
+  apart-field (component k h n) = record { k = k; inside = omega arith; apart = λ e. n (ap signed_of e) }
+  apart-field (magnitude n) = record { k = 3; inside = omega arith; apart = λ e. n (ap signed_of e) }
 
   module _ (b : (n : ℕ) → get_or first n 0 < 256) (c : (n : ℕ) → get_or second n 0 < 256) where
     pub field_apart : (k : ℕ) → k < fields → (field_of first i k ≡ field_of second j k → ⊥) → Apart
     unfolding component_of magnitude_of
     field_apart k h n = go (dec_lt k 3)
       where
-        one : (m : ℕ) → signed32_of (field_of first i m) ≡ signed32_of (field_of second j m) → field_of first i m ≡ field_of second j m
+        one : (m : ℕ) → signed_of (field_of first i m) ≡ signed_of (field_of second j m) → field_of first i m ≡ field_of second j m
         one m e = signed-one _ _ (number-most first (record_size * i + (4 + 4 * m)) 4 b) (number-most second (record_size * j + (4 + 4 * m)) 4 c) e
 
         go : Dec (k < 3) → Apart
