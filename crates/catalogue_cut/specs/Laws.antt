@@ -9,8 +9,7 @@ use Rattle.lists.specs.Below.{Place}
 use Rattle.numbers.specs.Within.{Within}
 use Rattle.words.specs.Number.{number_at}
 use Rattle.words.specs.NumberLaws.{number_same}
-use Rattle.numbers.specs.TwosComplement.{signed32_of}
-use Rattle.catalogue.specs.Format.{record_size, records_in, identity_of, component_of, magnitude_of}
+use Rattle.catalogue.specs.Format.{record_size, records_in, signed_of, identity_of, component_of, magnitude_of}
 use Rattle.catalogue.specs.Rule.{largest, square_sum, slack, squares, brightest, faintest}
 use Rattle.catalogue.specs.Valid.{StarRule, Valid}
 use Rattle.catalogue_cut.specs.Flight.{is_kept, product_of, kept_in, flight_of}
@@ -72,11 +71,11 @@ module _ (bytes : List ℕ) (limit closeness : ℤ) where
 
     pub same-component : (axis : ℕ) → axis < 3 → component_of flight p axis ≡ component_of bytes (was p) axis
     unfolding component_of
-    same-component axis l = ap signed32_of (word (4 + 4 * axis) (omega arith))
+    same-component axis l = ap signed_of (word (4 + 4 * axis) (omega arith))
 
     pub same-magnitude : magnitude_of flight p ≡ magnitude_of bytes (was p)
     unfolding magnitude_of
-    same-magnitude = ap signed32_of (word 16 (omega arith))
+    same-magnitude = ap signed_of (word 16 (omega arith))
 
     same-star : StarRule bytes (was p) → StarRule flight p
     same-star s =
