@@ -102,9 +102,9 @@ same_length c = search rules
 returns : tie.Need-returns-in-Refused
 returns c =
     let k : tie.After-ranked-sighting = search rules in
-    let o : tie.In-Refused-2 = search rules in
+    let o : tie.In-Refused = search rules in
     let w : tie.After-refused = search rules in
-    let q = o.in-Refused.field-0 in
+    let q = o.in-Refused.r in
     let e = outcome-is k o.in-Refused.is in
     (w.refused.ensures ∙ sym (refused-tracked (whole k) q e), (k.ranked-sighting.ensures.1, nothing-named (whole k) q w.refused.result e w.refused.ensures))
 

@@ -29,12 +29,12 @@ ranking-is : (r : tie.After-records) → let s = start r in take (s.args.report.
     ≡ our_ranking s.args.report s.args.bytes.now s.args.settings
 ranking-is r = let s = start r in (λ i. take (words_are r i) (s.requires.ranked i)) ∙ laws.room-front _ _ _ _ s.requires.ready
 
-found : (f : tie.After-search-found) → let s = start f.before.before in
+found : (f : tie.After-search-found) → let s = start f.before in
     Identified (sights_of s.args.report s.args.bytes.now s.args.settings) s.args.bytes.now s.args.settings.needed
     s.args.settings.tolerance
     (our_ranking s.args.report s.args.bytes.now s.args.settings) f.search-found.result
 found f =
-    let r = f.before.before in
+    let r = f.before in
     let a = (start r).args in
     subst (λ (ds : List ℤ). Identified ds a.bytes.now a.settings.needed a.settings.tolerance (our_ranking a.report a.bytes.now a.settings)
     f.search-found.result) (start r).requires.sights
@@ -50,14 +50,14 @@ mul_words : tie.Need-overflow_mul-words
 mul_words c = omega (arith, words_are c, laws.words-most _ _ _ _ (start c).requires.ready)
 
 slice-aggregate-search : tie.Need-slice_bounds-search-end
-slice-aggregate-search c = sym (length-take-le _ _ (room-long c.before))
+slice-aggregate-search c = sym (length-take-le _ _ (room-long c))
 
 search-requires : tie.Need-search-found-requires
 search-requires c κs = search rules
 
 settle-requires : tie.Need-settle-requires
 settle-requires c κs =
-    let s = start c.before.before in
+    let s = start c.before in
     subst (λ (ds : List ℤ). Settles ds s.args.bytes.now c.search-found.result) (sym s.requires.sights)
     (laws.our-settles _ _ _ _ s.requires.ready c.search-found.result (found c))
 
@@ -65,7 +65,7 @@ returns : tie.Need-returns
 unfolding located_of
 returns c =
     let f = c.before in
-    let s = start f.before.before in
+    let s = start f.before in
     let a = s.args in
     let e = c.settle.ensures ∙ ap (λ (ds : List ℤ). settled_of a.report ds a.bytes.now f.search-found.result) s.requires.sights in
     let sought = laws.our-search _ _ _ _ s.requires.ready f.search-found.result (found f) in (

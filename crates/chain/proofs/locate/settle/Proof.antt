@@ -105,7 +105,7 @@ returns-3 c =
     let a = c.before in
     let t = a.before.before.before.before in
     let s = (start t).args in
-    ap (λ (o : Outcome). record { outcome = o; report = s.report; stars = s.found.stars; matrix = c.in-Found.field-0 }) t.in-Accepted.is
+    ap (λ (o : Outcome). record { outcome = o; report = s.report; stars = s.found.stars; matrix = c.in-Found.matrix }) t.in-Accepted.is
     ∙ sym (found-is a ∙ ap (oriented s.report s.found.stars) c.in-Found.is)
 
 pub settle_spec : {M : Type 1} → statement M

@@ -80,7 +80,7 @@ same_length c = search rules
 returns : tie.Need-returns-in-Refused
 returns c =
     let k : tie.After-ranked-sighting = search rules in
-    let o : tie.In-Refused-2 = search rules in
+    let o : tie.In-Refused = search rules in
     (sym (refused-contest (whole k) _ (outcome-is k o.in-Refused.is)), k.ranked-sighting.ensures.1)
 
 same-length-2 : tie.Need-shape_of-room-in-Accepted

@@ -33,7 +33,7 @@ mul_words : tie.Need-overflow_mul-words
 mul_words c = omega (arith, words_are c, laws.words-most _ _ _ _ (start c).requires.ready)
 
 slice-aggregate-rival : tie.Need-slice_bounds-rival-end
-slice-aggregate-rival c = sym (length-take-le _ _ (room-long c.before))
+slice-aggregate-rival c = sym (length-take-le _ _ (room-long c))
 
 rival-requires : tie.Need-rival-requires
 rival-requires c κs = search rules
@@ -41,7 +41,7 @@ rival-requires c κs = search rules
 returns : tie.Need-returns
 unfolding our_contest
 returns c =
-    let r = c.before.before in
+    let r = c.before in
     let s = start r in
     let a = s.args in
     c.rival.ensures.1 ∙ (λ i. contest_of (s.requires.sights i) a.bytes.now a.settings.needed a.settings.tolerance (ranking-is r i))

@@ -93,7 +93,7 @@ loop-again c =
     let z = kept w32 c.narrow-in-loop-k-2.type_inv (c.narrow-in-loop-k-2.ensures ∙ back (arg {w = w64} w.z tt)) in (
       omega arith,
       (λ i. set (set (set (l.invariant.1 i) (3 * l.k) (x i)) (3 * l.k + 1) (y i)) (3 * l.k + 2) (z i))
-          ∙ filled_next s.args.settings s.args.stars l.k (omega arith) (omega (arith, s.well-formed.0.1.0.1)) d.direction_at-v.result
+          ∙ filled_next s.args.settings s.args.stars l.k (omega arith) (omega (arith, s.well_formed.0.1.0.1)) d.direction_at-v.result
           d.direction_at-v.ensures.0,
     )
 
