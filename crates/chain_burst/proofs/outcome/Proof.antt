@@ -1,7 +1,7 @@
 -- `chain_burst::outcome` meets its contract: each answer is the first row that applies, by the tests passed on the way. Assumes nothing.
 use borrow.Author.Rules.{rules}
-use mathlib.Core.Bool.{false}
-use mathlib.Core.Path.{◌≡◌, sym, ◌∙◌}
+use mathlib.Core.Bool.{false, not}
+use mathlib.Core.Path.{◌≡◌, sym, ap, ◌∙◌}
 use Prim.Native.Nat.{◌*◌, ◌<◌}
 use native.Mathlib.Omega.{arith}
 use Rattle.frame_list.specs.input.Input.{size_out}
@@ -12,7 +12,7 @@ use Rattle.chain_burst.proofs.outcome.Tie as tie
 
 -- the sides that the way on has passed
 size-right : (c : tie.Else-not-size_ok) → let a = c.args in size_out a.width a.height ≡ false
-size-right c = sym c.size_ok.ensures ∙ c.if-not-size_ok.false
+size-right c = sym c.size_ok.ensures ∙ ap not c.if-not-size_ok.false
 
 some : (c : tie.Else-not-size_ok) → let a = c.args in 0 < a.width * a.height
 some c = let a = c.args in size-some a.width a.height (size-right c)
@@ -24,7 +24,7 @@ plain-requires : tie.Need-plain-requires
 plain-requires c κs = search rules
 
 returns : tie.Need-returns-then-not-size_ok
-returns c = c.plain.ensures ∙ sym (size-refused _ _ _ _ (sym c.size_ok.ensures ∙ c.if-not-size_ok.true))
+returns c = c.plain.ensures ∙ sym (size-refused _ _ _ _ (sym c.size_ok.ensures ∙ ap not c.if-not-size_ok.true))
 
 mul-size : tie.Need-overflow_mul-size
 mul-size c = let a = c.args in omega (arith, size-most a.width a.height (size-right c))
