@@ -2,62 +2,45 @@
 ghost use Rattle.std.specs.Prelude.{◌≡◌, ◌<◌};
 ghost use Rattle.playback.specs.Sum.{sum_of};
 
-use libc::STDOUT_FILENO;
-
-fn print_space() {
-    io::write_all(STDOUT_FILENO, b" ");
-}
-
-fn print_signed(x: i64) {
-    if x < 0 {
-        io::write_all(STDOUT_FILENO, b"-");
-    }
-    io::print_decimal(STDOUT_FILENO, numbers::abs(x));
-}
+use std::io;
 
 // The first n of some numbers, each behind a space.
-pub fn print_numbers(numbers: &[i64], n: usize) {
-    let mut i: usize = 0;
-    while i < n {
-        if i < numbers.len() {
-            print_space();
-            print_signed(numbers[i]);
-        }
-        i += 1;
+pub fn print_numbers(rt: &impl Print, numbers: &[i64], n: usize) -> io::Result<()> {
+    for x in numbers.iter().take(n) {
+        print!(rt; " {x}")?;
     }
+    Ok(())
 }
 
 // The kind of a call and the first n numbers that it handed over.
-pub fn print_call(kind: u64, out: &[i64], n: usize) {
-    io::print_decimal(STDOUT_FILENO, kind);
-    print_numbers(out, n);
+pub fn print_call(rt: &impl Print, kind: u64, out: &[i64], n: usize) -> io::Result<()> {
+    print!(rt; "{kind}")?;
+    print_numbers(rt, out, n)
 }
 
 // One more number of a line.
-pub fn print_more(n: u64) {
-    print_space();
-    io::print_decimal(STDOUT_FILENO, n);
+pub fn print_more(rt: &impl Print, n: u64) -> io::Result<()> {
+    print!(rt; " {n}")
 }
 
 // A float by its bits. Any pattern that is not a number stands for any other, and all ones are printed for it.
-fn print_float(x: f64) {
+fn print_float(rt: &impl Print, x: f64) -> io::Result<()> {
     if x != x {
-        print_more(0xffff_ffff_ffff_ffff);
+        print_more(rt, 0xffff_ffff_ffff_ffff)
     } else {
-        print_more(floats::bits_of(x));
+        print_more(rt, floats::bits_of(x))
     }
 }
 
-pub fn print_floats(floats: &[f64]) {
-    let mut i: usize = 0;
-    while i < floats.len() {
-        print_float(floats[i]);
-        i += 1;
+pub fn print_floats(rt: &impl Print, floats: &[f64]) -> io::Result<()> {
+    for x in floats {
+        print_float(rt, *x)?;
     }
+    Ok(())
 }
 
-pub fn print_end() {
-    io::write_all(STDOUT_FILENO, b"\n");
+pub fn print_end(rt: &impl Print) -> io::Result<()> {
+    println!(rt; "")
 }
 
 fn wide(x: u16) -> u64
@@ -71,10 +54,8 @@ pub fn checksum(room: &[u16]) -> u64
     ensures { result ≡ sum_of room.now }
 {
     let mut sum: u64 = 0;
-    let mut i: usize = 0;
-    while i < room.len() {
-        sum = (sum * 31 + wide(room[i]) + 1) % 1000003;
-        i += 1;
+    for x in room {
+        sum = (sum * 31 + wide(*x) + 1) % 1000003;
     }
     sum
 }
@@ -90,10 +71,8 @@ pub fn bytes_checksum(room: &[u8]) -> u64
     ensures { result ≡ sum_of room.now }
 {
     let mut sum: u64 = 0;
-    let mut i: usize = 0;
-    while i < room.len() {
-        sum = (sum * 31 + byte(room[i]) + 1) % 1000003;
-        i += 1;
+    for x in room {
+        sum = (sum * 31 + byte(*x) + 1) % 1000003;
     }
     sum
 }

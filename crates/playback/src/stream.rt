@@ -1,6 +1,21 @@
 // Numbers and buffers read from a file, high byte first.
-ghost use Rattle.std.specs.Prelude.{◌≡◌, ◌%◌, ◌≤◌, ◌<◌, length, drop};
-ghost use Rattle.numbers.specs.TwosComplement.{signed32_of};
+ghost use Rattle.std.specs.Prelude.{◌≡◌, ◌≤◌, ◌<◌, length, drop};
+ghost use Rattle.playback.specs.Half.{signed_half};
+
+use std::fs::File;
+use std::io::Read;
+
+// Reads until the room is full, the file ends or a read fails. What is left of the room stays as it was.
+fn fill(file: &mut File, room: &mut [u8]) {
+    let mut done = 0;
+    for _ in 0..room.len() {
+        let n = file.read(&mut room[done..]).unwrap_or(0);
+        if n == 0 {
+            break;
+        }
+        done += n;
+    }
+}
 
 fn wide(x: u8) -> u64
     ensures { result < 256 }
@@ -24,36 +39,34 @@ fn byte_at(bytes: &[u8], at: usize, i: usize) -> u64
 // The number that n bytes from a place on make; of more than 8 the last 8 count.
 fn number(bytes: &[u8], at: usize, n: usize) -> u64 {
     let mut value: u64 = 0;
-    let mut i: usize = 0;
-    while i < n {
+    for i in 0..n {
         value = value % 0x100_0000_0000_0000 * 256 + byte_at(bytes, at, i);
-        i += 1;
     }
     value
 }
 
 // The next byte of the file, and 0 at its end.
-pub fn byte(fd: i32) -> u64 {
+pub fn byte(file: &mut File) -> u64 {
     let mut one = [0u8; 1];
-    io::read_full(fd, &mut one);
+    fill(file, &mut one);
     number(&one, 0, 1)
 }
 
 // The next word of the file, 8 bytes.
-pub fn word(fd: i32) -> u64 {
+pub fn word(file: &mut File) -> u64 {
     let mut eight = [0u8; 8];
-    io::read_full(fd, &mut eight);
+    fill(file, &mut eight);
     number(&eight, 0, 8)
 }
 
 // The next word, of which the last 4 bytes count.
-pub fn half(fd: i32) -> u32 {
-    (word(fd) % 0x1_0000_0000) as u32
+pub fn half(file: &mut File) -> u32 {
+    (word(file) % 0x1_0000_0000) as u32
 }
 
 // The next word as a float's bits.
-pub fn float(fd: i32) -> f64 {
-    floats::float_of(word(fd))
+pub fn float(file: &mut File) -> f64 {
+    floats::float_of(word(file))
 }
 
 // How many bytes n elements have, at most as many as there is room for.
@@ -90,47 +103,43 @@ fn put(room: &mut [u8], i: usize, x: u8) {
 
 // Goes on with the pattern in the first `from` bytes up to `to`; with zeros where it is empty.
 fn repeat(room: &mut [u8], from: usize, to: usize) {
-    let mut i = from;
-    while i < to {
+    for i in from..to {
         let x = earlier(room, i, from);
         put(room, i, x);
-        i += 1;
     }
 }
 
 // Reads one patch, an element's index and its bytes, into the element's place.
-fn patch(fd: i32, width: usize, room: &mut [u8])
+fn patch(file: &mut File, width: usize, room: &mut [u8])
     requires { width ≤ 8 }
 {
-    let at = size_of(word(fd), width, room.len());
+    let at = size_of(word(file), width, room.len());
     if room.len() - at < width {
         return;
     }
     let end = at + width;
-    io::read_full(fd, &mut room[at..end]);
+    fill(file, &mut room[at..end]);
 }
 
-fn patches(fd: i32, width: usize, room: &mut [u8])
+fn patches(file: &mut File, width: usize, room: &mut [u8])
     requires { width ≤ 8 }
 {
-    let count = word(fd);
-    let mut k: u64 = 0;
-    while k < count {
-        patch(fd, width, room);
-        k += 1;
+    let count = word(file);
+    for _ in 0..count {
+        patch(file, width, room);
     }
 }
 
 // Reads a buffer of elements of some bytes each into the room, and answers how many bytes it has.
-pub fn expand(fd: i32, width: usize, room: &mut [u8]) -> usize
+pub fn expand(file: &mut File, width: usize, room: &mut [u8]) -> usize
     requires { width ≤ 8 }
     ensures { result ≤ length room.new }
 {
-    let size = size_of(word(fd), width, room.len());
-    let front = size_of(word(fd), width, size);
-    io::read_full(fd, &mut room[0..front]);
+    let size = size_of(word(file), width, room.len());
+    let front = size_of(word(file), width, size);
+    fill(file, &mut room[0..front]);
     repeat(room, front, size);
-    patches(fd, width, room);
+    patches(file, width, room);
     size
 }
 
@@ -146,19 +155,22 @@ fn words(bytes: &[u8], room: &mut [u16]) -> usize
     ensures room_unchanged { drop result room.new ≡ drop result room.old }
 {
     let count = least(bytes.len() / 2, room.len());
-    let mut i: usize = 0;
-    while i < count {
+    for i in 0..count {
         room[i] = (number(bytes, 2 * i, 2) % 65536) as u16;
-        i += 1;
     }
     count
 }
 
-// The signed number of the last 4 bytes.
+// The number of 4 bytes, signed.
 pub fn signed_half(n: u64) -> i32
-    ensures { result ≡ signed32_of (n % 4294967296) }
+    ensures { result ≡ signed_half n }
 {
-    numbers::signed_32((n % 0x1_0000_0000) as u32)
+    let half = n % 0x1_0000_0000;
+    if half < 0x8000_0000 {
+        half as i32
+    } else {
+        0 - ((0xffff_ffff - half) as i32) - 1
+    }
 }
 
 // The signed numbers of 4 bytes each, at the start of the room.
@@ -167,10 +179,8 @@ fn halves(bytes: &[u8], room: &mut [i32]) -> usize
     ensures room_unchanged { drop result room.new ≡ drop result room.old }
 {
     let count = least(bytes.len() / 4, room.len());
-    let mut i: usize = 0;
-    while i < count {
+    for i in 0..count {
         room[i] = signed_half(number(bytes, 4 * i, 4));
-        i += 1;
     }
     count
 }
@@ -181,10 +191,8 @@ fn wholes(bytes: &[u8], room: &mut [i64]) -> usize
     ensures room_unchanged { drop result room.new ≡ drop result room.old }
 {
     let count = least(bytes.len() / 8, room.len());
-    let mut i: usize = 0;
-    while i < count {
+    for i in 0..count {
         room[i] = numbers::signed(number(bytes, 8 * i, 8));
-        i += 1;
     }
     count
 }
@@ -195,46 +203,44 @@ fn doubles(bytes: &[u8], room: &mut [f64]) -> usize
     ensures room_unchanged { drop result room.new ≡ drop result room.old }
 {
     let count = least(bytes.len() / 8, room.len());
-    let mut i: usize = 0;
-    while i < count {
+    for i in 0..count {
         room[i] = floats::float_of(number(bytes, 8 * i, 8));
-        i += 1;
     }
     count
 }
 
 // Reads a buffer of samples or of ranking words, and answers how many it has. `bytes` is room to expand it in.
-pub fn read_words(fd: i32, bytes: &mut [u8], room: &mut [u16]) -> usize
+pub fn read_words(file: &mut File, bytes: &mut [u8], room: &mut [u16]) -> usize
     ensures upper_bound { result ≤ length room.new }
     ensures room_unchanged { drop result room.new ≡ drop result room.old }
 {
-    let size = expand(fd, 2, bytes);
+    let size = expand(file, 2, bytes);
     words(&bytes[0..size], room)
 }
 
 // Reads a buffer of directions.
-pub fn read_directions(fd: i32, bytes: &mut [u8], room: &mut [i32]) -> usize
+pub fn read_directions(file: &mut File, bytes: &mut [u8], room: &mut [i32]) -> usize
     ensures upper_bound { result ≤ length room.new }
     ensures room_unchanged { drop result room.new ≡ drop result room.old }
 {
-    let size = expand(fd, 4, bytes);
+    let size = expand(file, 4, bytes);
     halves(&bytes[0..size], room)
 }
 
 // Reads a buffer of the attitude's numbers, or of a matrix.
-pub fn read_wholes(fd: i32, bytes: &mut [u8], room: &mut [i64]) -> usize
+pub fn read_wholes(file: &mut File, bytes: &mut [u8], room: &mut [i64]) -> usize
     ensures upper_bound { result ≤ length room.new }
     ensures room_unchanged { drop result room.new ≡ drop result room.old }
 {
-    let size = expand(fd, 8, bytes);
+    let size = expand(file, 8, bytes);
     wholes(&bytes[0..size], room)
 }
 
 // Reads a buffer of floats.
-pub fn read_floats(fd: i32, bytes: &mut [u8], room: &mut [f64]) -> usize
+pub fn read_floats(file: &mut File, bytes: &mut [u8], room: &mut [f64]) -> usize
     ensures upper_bound { result ≤ length room.new }
     ensures room_unchanged { drop result room.new ≡ drop result room.old }
 {
-    let size = expand(fd, 8, bytes);
+    let size = expand(file, 8, bytes);
     doubles(&bytes[0..size], room)
 }
