@@ -1,11 +1,14 @@
 // Reads settings.bin, catalogue.bin and frame.bin of the current folder, and writes the listing on standard output.
 #![tactic(auto)]
 
-ghost use Rattle.io.specs.Counts.{IsPrefixLen};
+ghost use Rattle.std.specs.Prelude.{◌≤◌, length};
 
 use catalogue::{MOST_RECORDS, RECORD_SIZE};
-use libc::{STDERR_FILENO, STDOUT_FILENO};
 use listing::Asked;
+use std::fs::File;
+use std::io;
+use std::io::Read;
+use std::rt::Files;
 
 // Each buffer has room for one byte more than its file may have, so that a file that is too long is seen to be.
 const SETTINGS_ROOM: usize = 33;
@@ -14,33 +17,47 @@ const FRAME_ROOM: usize = 64001;
 
 const CATALOGUE_ROOM: usize = RECORD_SIZE * MOST_RECORDS + 1;
 
-// Reads a file into the buffer and answers how many bytes it put there. A missing file counts as empty.
-fn read(name: &[u8], buffer: &mut [u8]) -> usize
-    ensures { IsPrefixLen result buffer.new }
+// Reads until the buffer is full, the file ends or a read fails, and answers how many bytes it put there.
+fn fill(file: &mut impl Read, buffer: &mut [u8]) -> usize
+    ensures { result ≤ length buffer.new }
 {
-    let fd = os::open_read(name);
-    if fd < 0 {
-        return 0;
+    let mut done = 0;
+    for _ in 0..buffer.len() {
+        let n = file.read(&mut buffer[done..]).unwrap_or(0);
+        if n == 0 {
+            break;
+        }
+        done += n;
     }
-    let n = io::read_full(fd, buffer);
-    libc::close(fd);
-    n
+    done
 }
 
-// Writes the listing out. A program has no exit status of its own, so a write that failed is told on standard error, and the script makes a status of it.
-fn show(listing: &[u8]) {
-    if !io::write_all(STDOUT_FILENO, listing) {
-        io::write_all(STDERR_FILENO, b"mnemathor: the listing was not written\n");
+// Reads a file into the buffer and answers how many bytes it put there. A missing file counts as empty.
+fn read(rt: &impl Files, name: &str, buffer: &mut [u8]) -> usize
+    ensures { result ≤ length buffer.new }
+{
+    match File::open(rt, name) {
+        Ok(mut file) => fill(&mut file, buffer),
+        Err(_) => 0,
     }
 }
 
-fn main() {
+// Writes the listing out. A write that failed is told on standard error, and its error ends the program.
+fn show(rt: &(impl Print + Eprint), listing: &[u8]) -> io::Result<()> {
+    let written = rt.write_all(listing);
+    if written.is_err() {
+        let _ = eprintln!(rt; "mnemathor: the listing was not written");
+    }
+    written
+}
+
+fn main(rt: HostRuntime) -> io::Result<()> {
     let mut settings = [0u8; SETTINGS_ROOM];
-    let n = read(b"settings.bin", &mut settings);
+    let n = read(&rt, "settings.bin", &mut settings);
     let mut frame = [0u8; FRAME_ROOM];
-    let m = read(b"frame.bin", &mut frame);
+    let m = read(&rt, "frame.bin", &mut frame);
     let mut catalogue = [0u8; CATALOGUE_ROOM];
-    let k = read(b"catalogue.bin", &mut catalogue);
+    let k = read(&rt, "catalogue.bin", &mut catalogue);
     let mut room = [0u8; listing::ROOM];
     let end = listing::write(
         Asked::Listing,
@@ -49,5 +66,5 @@ fn main() {
         &catalogue[..k],
         &mut room,
     );
-    show(&room[..end]);
+    show(&rt, &room[..end])
 }
