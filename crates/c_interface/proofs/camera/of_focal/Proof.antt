@@ -28,7 +28,7 @@ returns c = c.of_refusal.ensures ∙ ap focal_numbers (sym c.before.in-Refused.i
 returns-2 : tie.Need-returns-in-Whole
 returns-2 c =
     let g = c.before.in-Whole in
-    let f = back (held {w = w64} g.0.0 c.before.in-Whole.field-1) in
+    let f = back (held {w = w64} g.f.0 c.before.in-Whole.field-1) in
     c.of_whole.ensures ∙ ap (λ (z : ℤ). accepted_numbers (z ∷ [])) f ∙ ap focal_numbers (sym g.1)
 
 pub of_focal_spec : {M : Type 1} → statement M

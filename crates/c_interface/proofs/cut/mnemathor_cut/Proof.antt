@@ -30,8 +30,8 @@ returns c =
     let o : tie.After-of_counted = search rules in
     let s = w.before.before.before in
     let x = s.args in
-    let y = to_z-of_z w32 x.limit s.fits.limit in
-    let z = to_z-of_z w64 x.closeness s.fits.closeness in (
+    let y = to_z-of_z w32 x.limit s.ranges.limit in
+    let z = to_z-of_z w64 x.closeness s.ranges.closeness in (
       w.cut-shortened.ensures.1.0 ∙ (λ i. buffer_after x.bytes.now (y i) (z i)),
       handed counted_numbers _ c.before.hand_over.ensures o.of_counted.ensures (w.cut-shortened.ensures.0 ∙ (λ i. shortened_of x.bytes.now (y i) (z i))),
     )

@@ -61,15 +61,15 @@ frame-in-requires : tie.Need-frame_in-framed-requires
 frame-in-requires c κs = search rules
 
 -- the whole room is lent
-framed : (c : tie.After-frame_in-framed) → c.frame_in-framed.result ≡ framed_in c.before.before.before.before.before.args.guider.now
-    c.before.before.before.before.before.args.list.now
+framed : (c : tie.After-frame_in-framed) → c.frame_in-framed.result ≡ framed_in c.before.before.before.before.args.guider.now
+    c.before.before.before.before.args.list.now
 framed c =
-    let o = c.before.before.before.before.before.args in
+    let o = c.before.before.before.before.args in
     c.frame_in-framed.ensures ∙ ap (λ (room : List ℤ). framed_in room o.list.now) (take_all 18 o.guider.now (search rules))
 
 put-framed-requires : tie.Need-put_framed-requires
 put-framed-requires c κs =
-    let o = c.before.before.before.before.before.before.args in
+    let o = c.before.before.before.before.before.args in
     (search rules, few o.guider.now o.list.now (framed c.before))
 
 same_length : tie.Need-shape_of-guider
@@ -80,8 +80,8 @@ returns-3 c =
     let put = c.before in
     let frame = put.before.before in
     let left = frame.before.before.before in
-    let a = left.before.before.args in
-    is-taken a.guider.now a.list.now (rw (eq-eqb _ _ left.before.if-guider-ne-NUMBERS.false, eq-eqb _ _ left.if-list-ne64.false)) (framed frame) put.put_framed.ensures
+    let a = left.before.args in
+    is-taken a.guider.now a.list.now (rw (eq-eqb _ _ left.if-guider-ne-NUMBERS.false, eq-eqb _ _ left.if-guider-ne-NUMBERS.false)) (framed frame) put.put_framed.ensures
 
 pub put_frame_spec : {M : Type 1} → statement M
 put_frame_spec =

@@ -22,7 +22,7 @@ same-length-2 c = search rules
 
 returns : tie.Need-returns
 returns c =
-    let r = c.before.before.before.before.before.before.rank in
+    let r = c.rank-outcome in
     (r.ensures.1.0, handed ranking_numbers _ c.before.hand_over.ensures c.before.before.of_ranking.ensures r.ensures.0)
 
 pub mnemathor_ranking_spec : {M : Type 1} → statement M
