@@ -35,7 +35,7 @@ use Rattle.camera_lens.specs.Stated.{settings_lens}
 use Rattle.camera_direction.specs.camera.Camera.{direction_of}
 use Rattle.camera_direction.specs.camera.Laws.{settings-direction}
 use Rattle.words.specs.Number.{number_at}
-use Rattle.catalogue.specs.Format.{identity_of, component_of, magnitude_of}
+use Rattle.catalogue.specs.Format.{signed_of, identity_of, component_of, magnitude_of}
 use Rattle.catalogue.specs.Rule.{direction_ok, magnitude_ok, identity_rises, record_ok}
 use Rattle.catalogue.specs.Check as catalogue
 use Rattle.catalogue.specs.Stars.{stars_to, stars_of}
@@ -142,8 +142,8 @@ attitudes-hold below = (case-I, (ap sent_of case-I ∙ gimbal.case-I, (case-J, (
 searches-hold : AllHold (drop 23 table) → AllHold (drop 15 table)
 unfolding table first_applying identification_of pad_to refusals.refusals_of refusals.rows_beside refusals.demand_ok lent_of clash first first_from some all
     list_ok all_within
-    catalogue.refusals_of catalogue.length_ok catalogue.broken_of record_ok direction_ok magnitude_ok identity_rises component_of magnitude_of identity_of number_at
-    stars_of stars_to
+    catalogue.refusals_of catalogue.length_ok catalogue.broken_of record_ok direction_ok magnitude_ok identity_rises component_of magnitude_of identity_of signed_of
+    number_at stars_of stars_to
     first_fit run row assigned standing pairs_and_threes pairs threes agreement agreeing pair_dot mirroring mirrored triple_of triple_at
 searches-hold below = (only refl, (only refl, (only refl, (only refl, (only refl, (only refl, (only refl, (only refl, below))))))))
 
