@@ -22,7 +22,7 @@ compared_is : (k : tie.After-compare-compared) → k.compare-compared.result ≡
 compared_is k = k.compare-compared.ensures.0 ∙ ap (compared_of (start k).args.first.now (start k).args.second.now) (length-replicate {A = ℕ} 8192 0)
 
 -- the list has records, and stands at the front of its room
-module _ (c : tie.In-Count-2) where
+module _ (c : tie.In-Count) where
   abbrev called : tie.After-compare-compared
   called = c.before.before
 
@@ -33,7 +33,7 @@ module _ (c : tie.In-Count-2) where
   second = (start called).args.second.now
 
   abbrev records : ℕ
-  records = c.in-Count.field-0
+  records = c.in-Count.n
 
   listed-is : compared_of first second 8192 ≡ Count records
   listed-is = sym (compared_is called) ∙ c.in-Count.is
@@ -47,11 +47,11 @@ module _ (c : tie.In-Count-2) where
   long : length (changes_of first second) ≡ 8 * records
   long = list-long first second (replicate 8192 0) zeros records listed-is
 
-  front : take (8 * records) called.compare.last.1.1.0 ≡ changes_of first second
+  front : take (8 * records) called.compare-compared.new.room ≡ changes_of first second
   front = ap (take (8 * records)) called.compare-compared.ensures.1.0 ∙ list-front first second (replicate 8192 0) zeros records listed-is
 
-  within : 8 * records ≤ length called.compare.last.1.1.0
-  within = omega (arith, length-take (8 * records) called.compare.last.1.1.0, ap length front, long)
+  within : 8 * records ≤ length called.compare-compared.new.room
+  within = omega (arith, length-take (8 * records) called.compare-compared.new.room, ap length front, long)
 
 returns : tie.Need-returns-then-room-lt-ROOM
 returns c =
@@ -90,24 +90,19 @@ same_length c = search rules
 
 returns-2 : tie.Need-returns-in-Refused
 returns-2 c =
-    let w = c.before.before in
-    let e : tie.Else-room-lt-ROOM = search rules in
     let k : tie.After-compare-compared = search rules in
-    let m : tie.In-Refused-2 = search rules in
-    let t = text-refused (start k).args.first.now (start k).args.second.now _ (sym (compared_is k) ∙ m.in-Refused.is) in
-    room-told 32768 _ _ _ _ _ 29696 e.if-room-lt-ROOM.left (omega (arith, w.refused.ensures.1)) (omega arith) t w.refused.ensures.0
+    let t = text-refused (start k).args.first.now (start k).args.second.now _ (sym (compared_is k) ∙ c.in-Refused.is) in
+    room-told 32768 _ _ _ _ _ 29696 c.if-room-lt-ROOM.false (omega (arith, c.refused.ensures.1)) (omega arith) t c.refused.ensures.0
 
 same-length-2 : tie.Need-shape_of-room-in-Count
 same-length-2 c = search rules
 
 returns-3 : tie.Need-returns-in-Count
 returns-3 c =
-    let w = c.before.before in
-    let e : tie.Else-room-lt-ROOM = search rules in
-    let m : tie.In-Count-2 = search rules in
+    let m : tie.In-Count = search rules in
     let t = ap (λ (l : List ℕ). lines_of l) (front m) ∙ text-listed (first m) (second m) (records m) (listed-is m) in
-    room-told 32768 _ _ _ _ _ 29696 e.if-room-lt-ROOM.left (omega (arith, w.lines.ensures.1, ap length (front m), long m, fits m)) (omega arith) t
-    w.lines.ensures.0
+    room-told 32768 _ _ _ _ _ 29696 c.if-room-lt-ROOM.false (omega (arith, c.lines.ensures.1, ap length (front m), long m, fits m)) (omega arith) t
+    c.lines.ensures.0
 
 pub compare_text_spec : {M : Type 1} → statement M
 compare_text_spec =

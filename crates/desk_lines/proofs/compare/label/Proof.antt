@@ -12,9 +12,6 @@ use Rattle.desk_lines.proofs.compare.label.Tie as tie
 told : {a b xs ys : List ℕ} {at to : ℕ} → xs ≡ ys → Wrote a at xs b to → Wrote a at ys b to
 told {a} {b} {at = at} {to = to} e p = subst (λ (x : List ℕ). Wrote a at x b to) e p
 
-slice-aggregate-labelled : tie.Need-slice-aggregate-labelled
-slice-aggregate-labelled c = search rules
-
 labelled-requires : tie.Need-labelled-requires
 labelled-requires c κs = search rules
 
@@ -23,13 +20,8 @@ same_length c = search rules
 
 returns : tie.Need-returns-then-kind-eq1
 returns c =
-    let w : tie.After-labelled = search rules in
-    let t : tie.Then-kind-eq1 = search rules in
-    let x = t.before.before.args in
-    (told (label-removed x.identity x.kind t.if-kind-eq1.taken) w.labelled.ensures.0, omega (arith, w.labelled.ensures.1))
-
-slice-aggregate-labelled-2 : tie.Need-slice-aggregate-labelled-2
-slice-aggregate-labelled-2 c = search rules
+    let x = c.args in
+    (told (label-removed x.identity x.kind c.if-kind-eq1.true) c.labelled.ensures.0, omega (arith, c.labelled.ensures.1))
 
 labelled-requires-2 : tie.Need-labelled-requires-then-kind-eq2
 labelled-requires-2 c κs = search rules
@@ -39,13 +31,8 @@ same-length-2 c = search rules
 
 returns-2 : tie.Need-returns-then-kind-eq2
 returns-2 c =
-    let w : tie.After-labelled-then-kind-eq2 = search rules in
-    let t : tie.Then-kind-eq2 = search rules in
-    let x = t.before.before.before.args in
-    (told (label-added x.identity x.kind t.before.if-kind-eq1.left t.if-kind-eq2.taken) w.labelled-then-kind-eq2.ensures.0, omega (arith, w.labelled-then-kind-eq2.ensures.1))
-
-slice-aggregate-labelled-3 : tie.Need-slice-aggregate-labelled-3
-slice-aggregate-labelled-3 c = search rules
+    let x = c.args in
+    (told (label-added x.identity x.kind c.if-kind-eq1.false c.if-kind-eq2.true) c.labelled-then-kind-eq2.ensures.0, omega (arith, c.labelled-then-kind-eq2.ensures.1))
 
 labelled-requires-3 : tie.Need-labelled-requires-2
 labelled-requires-3 c κs = search rules
@@ -55,24 +42,19 @@ same-length-3 c = search rules
 
 returns-3 : tie.Need-returns
 returns-3 c =
-    let w : tie.After-labelled-2 = search rules in
-    let t : tie.Else-kind-eq2 = search rules in
-    let x = t.before.before.before.args in
-    (told (label-changed x.identity x.kind t.before.if-kind-eq1.left t.if-kind-eq2.left) w.labelled-2.ensures.0, omega (arith, w.labelled-2.ensures.1))
+    let x = c.args in
+    (told (label-changed x.identity x.kind c.if-kind-eq1.false c.if-kind-eq2.false) c.labelled-2.ensures.0, omega (arith, c.labelled-2.ensures.1))
 
 pub label_spec : {M : Type 1} → statement M
 label_spec =
     tie.close
     (tie.spec
-    slice-aggregate-labelled
     labelled-requires
     same_length
     returns
-    slice-aggregate-labelled-2
     labelled-requires-2
     same-length-2
     returns-2
-    slice-aggregate-labelled-3
     labelled-requires-3
     same-length-3
     returns-3)

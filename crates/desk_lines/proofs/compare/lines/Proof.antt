@@ -43,15 +43,11 @@ loop-less c = search rules
 
 loop-again : tie.Need-loop-k-preserved invariant-loop decreases-loop
 loop-again c =
-    let w : tie.After-line-next invariant-loop decreases-loop = search rules in
-    let l : tie.At-loop-k invariant-loop decreases-loop = search rules in
-    let u : tie.After-u32_at invariant-loop decreases-loop = search rules in
-    let v : tie.After-u32_at-in-loop-k invariant-loop decreases-loop = search rules in
-    let i = l.loop-k.inv in (
+    let i = c.loop-k.invariant in (
       omega arith,
-      wrote-length w.line-next.ensures.0 ∙ i.1,
-      lines_more _ l.loop-k.k u.u32_at.ensures v.u32_at-in-loop-k.ensures i.2 w.line-next.ensures.0,
-      omega (arith, i.3, w.line-next.ensures.1),
+      wrote-length c.line-next.ensures.0 ∙ i.1,
+      lines_more _ c.loop-k.k c.u32_at.ensures c.u32_at-in-loop-k.ensures i.2 c.line-next.ensures.0,
+      omega (arith, i.3, c.line-next.ensures.1),
     )
 
 same_length : tie.Need-shape_of-room invariant-loop decreases-loop
@@ -59,8 +55,8 @@ same_length c = search rules
 
 returns : tie.Need-returns invariant-loop decreases-loop
 returns c =
-    let i = c.before.loop-k.invariant in
-    (lines-all _ c.before.loop-k.k (omega arith) i.2, omega (arith, i.3))
+    let i = c.loop-k.invariant in
+    (lines-all _ c.loop-k.k (omega arith) i.2, omega (arith, i.3))
 
 pub lines_spec : {M : Type 1} → statement M
 lines_spec =

@@ -57,18 +57,18 @@ module _
 -- what the cut gave and left, by the numbers as they were handed in
 module _ (c : tie.After-cut-shortened) where
   abbrev start : tie.Start
-  start = c.before.before.before.before.before.before
+  start = c.before.before.before.before.before
 
   gave : c.cut-shortened.result ≡ shortened_of start.args.bytes.now start.args.limit start.args.closeness
   gave =
-      let y = to_z-of_z w32 start.args.limit start.fits.limit in
-      let z = to_z-of_z w64 start.args.closeness start.fits.closeness in
+      let y = to_z-of_z w32 start.args.limit start.ranges.limit in
+      let z = to_z-of_z w64 start.args.closeness start.ranges.closeness in
       c.cut-shortened.ensures.0 ∙ (λ i. shortened_of start.args.bytes.now (y i) (z i))
 
-  left : c.cut-shortened.new.0 ≡ buffer_after start.args.bytes.now start.args.limit start.args.closeness
+  left : c.cut-shortened.new.bytes ≡ buffer_after start.args.bytes.now start.args.limit start.args.closeness
   left =
-      let y = to_z-of_z w32 start.args.limit start.fits.limit in
-      let z = to_z-of_z w64 start.args.closeness start.fits.closeness in
+      let y = to_z-of_z w32 start.args.limit start.ranges.limit in
+      let z = to_z-of_z w64 start.args.closeness start.ranges.closeness in
       c.cut-shortened.ensures.1.0 ∙ (λ i. buffer_after start.args.bytes.now (y i) (z i))
 
 records-requires : tie.Need-records-records-requires
@@ -89,9 +89,8 @@ enum-known-shortened-2 c = search rules
 mul-kept : tie.Need-overflow_mul-kept
 mul-kept c =
     let k : tie.After-cut-shortened = search rules in
-    let t : tie.In-Count-2 = search rules in
     let x = (start k).args in
-    record { fits = omega (arith, flight-within x.bytes.now x.limit x.closeness _ (sym (gave k) ∙ t.in-Count.is)) }
+    record { fits = omega (arith, flight-within x.bytes.now x.limit x.closeness _ (sym (gave k) ∙ c.in-Count.is)) }
 
 whole-line-requires-2 : tie.Need-whole_line-line-requires-in-Count
 whole-line-requires-2 c κs = search rules
@@ -104,12 +103,10 @@ same-length-2 c = search rules
 
 returns : tie.Need-returns-in-Refused
 returns c =
-    let w : tie.After-whole_line-line = search rules in
-    let t : tie.In-Refused-2 = search rules in
     let k : tie.After-cut-shortened = search rules in
     let x = (start k).args in
-    refused x.bytes.now x.limit x.closeness x.room.now _ _ (gave k) (left k) k.before.before.records-records.ensures _ t.in-Refused.is
-    w.whole_line-line.ensures.0 w.whole_line-line.ensures.1.0 w.whole_line-line.ensures.1.1
+    refused x.bytes.now x.limit x.closeness x.room.now _ _ (gave k) (left k) k.records-records.ensures _ c.in-Refused.is
+    c.whole_line-line.ensures.0 c.whole_line-line.ensures.1.0 c.whole_line-line.ensures.1.1
 
 same-length-3 : tie.Need-shape_of-bytes-in-Count
 same-length-3 c = search rules
@@ -119,12 +116,10 @@ same-length-4 c = search rules
 
 returns-2 : tie.Need-returns-in-Count
 returns-2 c =
-    let w : tie.After-whole_line-line-in-Count = search rules in
-    let t : tie.In-Count-2 = search rules in
     let k : tie.After-cut-shortened = search rules in
     let x = (start k).args in
-    kept x.bytes.now x.limit x.closeness x.room.now _ _ (gave k) (left k) k.before.before.records-records.ensures _ t.in-Count.is
-    w.whole_line-line-in-Count.ensures.0 w.whole_line-line-in-Count.ensures.1.0 w.whole_line-line-in-Count.ensures.1.1
+    kept x.bytes.now x.limit x.closeness x.room.now _ _ (gave k) (left k) k.records-records.ensures _ c.in-Count.is
+    c.whole_line-line-in-Count.ensures.0 c.whole_line-line-in-Count.ensures.1.0 c.whole_line-line-in-Count.ensures.1.1
 
 pub cut_text_spec : {M : Type 1} → statement M
 cut_text_spec =

@@ -6,20 +6,11 @@ use Rattle.desk_lines.specs.FileLine.{kept_line}
 use Rattle.desk_lines.proofs.file_line.kept_line.Statement.{statement}
 use Rattle.desk_lines.proofs.file_line.kept_line.Tie as tie
 
-slice-aggregate-labelled : tie.Need-slice-aggregate-labelled
-slice-aggregate-labelled c = search rules
-
 labelled-requires : tie.Need-labelled-first-requires
 labelled-requires c κs = search rules
 
-slice-aggregate-labelled-2 : tie.Need-slice-aggregate-labelled-2
-slice-aggregate-labelled-2 c = search rules
-
 labelled-requires-2 : tie.Need-labelled-second-requires
 labelled-requires-2 c κs = search rules
-
-slice-aggregate-word : tie.Need-slice-aggregate-word
-slice-aggregate-word c = search rules
 
 word-requires : tie.Need-word-requires
 word-requires c κs = search rules
@@ -41,11 +32,8 @@ pub kept_line_spec : {M : Type 1} → statement M
 kept_line_spec =
     tie.close
     (tie.spec
-    slice-aggregate-labelled
     labelled-requires
-    slice-aggregate-labelled-2
     labelled-requires-2
-    slice-aggregate-word
     word-requires
     same_length
     returns)

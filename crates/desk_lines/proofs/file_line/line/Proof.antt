@@ -36,27 +36,21 @@ same_length c = search rules
 
 returns : tie.Need-returns-in-Refused
 returns c =
-    let w = c.before.before in
-    let t : tie.In-Refused-2 = search rules in
-    (told t.in-Refused.is w.refused.ensures.0, omega (arith, w.refused.ensures.1))
+    (told c.in-Refused.is c.refused.ensures.0, omega (arith, c.refused.ensures.1))
 
 same-length-2 : tie.Need-shape_of-room-in-Records
 same-length-2 c = search rules
 
 returns-2 : tie.Need-returns-in-Records
 returns-2 c =
-    let w = c.before.before in
-    let t : tie.In-Records-2 = search rules in
-    (told t.in-Records.is w.records_line.ensures.0, omega (arith, w.records_line.ensures.1))
+    (told c.in-Records.is c.records_line.ensures.0, omega (arith, c.records_line.ensures.1))
 
 same-length-3 : tie.Need-shape_of-room-in-Kept
 same-length-3 c = search rules
 
 returns-3 : tie.Need-returns-in-Kept
 returns-3 c =
-    let w = c.before.before in
-    let t : tie.In-Kept-2 = search rules in
-    (told t.in-Kept.is w.Kept-line.ensures.0, omega (arith, w.Kept-line.ensures.1))
+    (told c.in-Kept.is c.kept_line.ensures.0, omega (arith, c.kept_line.ensures.1))
 
 pub line_spec : {M : Type 1} → statement M
 line_spec =

@@ -18,10 +18,8 @@ same_length c = search rules
 
 returns-2 : tie.Need-returns
 returns-2 c =
-    let w = c.before.before in
-    let e : tie.Else-room-lt-LINE = search rules in
-    let b = room_whole 128 _ _ _ _ e.if-room-lt-LINE.left (omega (arith, w.line.ensures.1)) w.line.ensures.0 in
-    (b.0, (b.1, w.line.ensures.1))
+    let b = room_whole 128 _ _ _ _ c.if-room-lt-LINE.false (omega (arith, c.line.ensures.1)) c.line.ensures.0 in
+    (b.0, (b.1, c.line.ensures.1))
 
 pub whole_line_spec : {M : Type 1} → statement M
 whole_line_spec = tie.close (tie.spec returns line-requires same_length returns-2)

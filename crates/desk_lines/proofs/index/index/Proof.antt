@@ -58,12 +58,12 @@ module _ (c : tie.After-build-built) where
   start = c.before.before.before.before.before
 
   floor-is : to_z w64 (of_z w64 start.args.floor) ≡ start.args.floor
-  floor-is = to_z-of_z w64 start.args.floor start.fits.floor
+  floor-is = to_z-of_z w64 start.args.floor start.ranges.floor
 
   built-is : c.build-built.result ≡ built_of start.args.catalogue.now start.args.floor (length start.args.index.now)
   built-is = c.build-built.ensures.0 ∙ ap (λ (z : ℤ). built_of start.args.catalogue.now z (length start.args.index.now)) floor-is
 
-  made-is : c.build-built.new.1.1.0 ≡ room_after start.args.catalogue.now start.args.floor start.args.index.now
+  made-is : c.build-built.new.room ≡ room_after start.args.catalogue.now start.args.floor start.args.index.now
   made-is = c.build-built.ensures.1.0 ∙ ap (λ (z : ℤ). room_after start.args.catalogue.now z start.args.index.now) floor-is
 
 build-requires : tie.Need-build-built-requires
@@ -81,9 +81,8 @@ enum-known-built-2 c = search rules
 mul-bytes : tie.Need-overflow_mul-bytes
 mul-bytes c =
     let b : tie.After-build-built = search rules in
-    let t : tie.In-Count-2 = search rules in
     let a = (start b).args in
-    record { fits = omega (arith, index-within a.catalogue.now a.floor (length a.index.now) _ (sym (built-is b) ∙ t.in-Count.is)) }
+    record { fits = omega (arith, index-within a.catalogue.now a.floor (length a.index.now) _ (sym (built-is b) ∙ c.in-Count.is)) }
 
 whole-line-requires-2 : tie.Need-whole_line-line-requires-in-Count
 whole-line-requires-2 c κs = search rules
@@ -96,12 +95,10 @@ same-length-2 c = search rules
 
 returns : tie.Need-returns-in-Refused
 returns c =
-    let w : tie.After-whole_line-line = search rules in
-    let t : tie.In-Refused-2 = search rules in
     let b : tie.After-build-built = search rules in
     let a = (start b).args in
-    refused a.catalogue.now a.floor a.index.now a.room.now _ _ (built-is b) (made-is b) _ t.in-Refused.is w.whole_line-line.ensures.0
-    w.whole_line-line.ensures.1.0 w.whole_line-line.ensures.1.1
+    refused a.catalogue.now a.floor a.index.now a.room.now _ _ (built-is b) (made-is b) _ c.in-Refused.is c.whole_line-line.ensures.0
+    c.whole_line-line.ensures.1.0 c.whole_line-line.ensures.1.1
 
 same-length-3 : tie.Need-shape_of-index-in-Count
 same-length-3 c = search rules
@@ -111,12 +108,10 @@ same-length-4 c = search rules
 
 returns-2 : tie.Need-returns-in-Count
 returns-2 c =
-    let w : tie.After-whole_line-line-in-Count = search rules in
-    let t : tie.In-Count-2 = search rules in
     let b : tie.After-build-built = search rules in
     let a = (start b).args in
-    records a.catalogue.now a.floor a.index.now a.room.now _ _ (built-is b) (made-is b) _ t.in-Count.is w.whole_line-line-in-Count.ensures.0
-    w.whole_line-line-in-Count.ensures.1.0 w.whole_line-line-in-Count.ensures.1.1
+    records a.catalogue.now a.floor a.index.now a.room.now _ _ (built-is b) (made-is b) _ c.in-Count.is c.whole_line-line-in-Count.ensures.0
+    c.whole_line-line-in-Count.ensures.1.0 c.whole_line-line-in-Count.ensures.1.1
 
 pub index_spec : {M : Type 1} → statement M
 index_spec =

@@ -14,10 +14,10 @@ use Rattle.desk_lines.proofs.pixel.explain.Tie as tie
 abbrev start : tie.After-read_samples-count → tie.Start
 start c = c.before.before.before
 
-within : (c : tie.After-read_samples-count) → c.read_samples-count.result ≤ length c.read_samples-count.new.1.1.1.0
+within : (c : tie.After-read_samples-count) → c.read_samples-count.result ≤ length c.read_samples-count.new.room
 within c = lent-within _ _ _ _ c.read_samples-count.ensures.1
 
-samples-are : (c : tie.After-read_samples-count) → take c.read_samples-count.result c.read_samples-count.new.1.1.1.0 ≡ samples_of (start c).args.frame.now
+samples-are : (c : tie.After-read_samples-count) → take c.read_samples-count.result c.read_samples-count.new.room ≡ samples_of (start c).args.frame.now
     (sample_count (length (start c).args.frame.now) (start c).args.settings.width (start c).args.settings.height)
 samples-are c = lent-samples _ _ _ _ _ _ c.read_samples-count.ensures.1 c.read_samples-count.ensures.0
 

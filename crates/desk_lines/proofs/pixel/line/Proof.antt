@@ -30,18 +30,14 @@ same_length c = search rules
 
 returns : tie.Need-returns-in-Refused
 returns c =
-    let w = c.before.before in
-    let t : tie.In-Refused-2 = search rules in
-    (told t.in-Refused.is w.refused.ensures.0, omega (arith, w.refused.ensures.1))
+    (told c.in-Refused.is c.refused.ensures.0, omega (arith, c.refused.ensures.1))
 
 same-length-2 : tie.Need-shape_of-room-in-Given
 same-length-2 c = search rules
 
 returns-2 : tie.Need-returns-in-Given
 returns-2 c =
-    let w = c.before.before in
-    let t : tie.In-Given-2 = search rules in
-    (told t.in-Given.is w.reason_line.ensures.0, omega (arith, w.reason_line.ensures.1))
+    (told c.in-Given.is c.reason_line.ensures.0, omega (arith, c.reason_line.ensures.1))
 
 pub line_spec : {M : Type 1} → statement M
 line_spec =

@@ -6,26 +6,14 @@ use Rattle.desk_lines.specs.Why.{measured_line}
 use Rattle.desk_lines.proofs.pixel.measured.Statement.{statement}
 use Rattle.desk_lines.proofs.pixel.measured.Tie as tie
 
-slice-aggregate-labelled : tie.Need-slice-aggregate-labelled
-slice-aggregate-labelled c = search rules
-
 labelled-requires : tie.Need-labelled-x-requires
 labelled-requires c κs = search rules
-
-slice-aggregate-labelled-2 : tie.Need-slice-aggregate-labelled-2
-slice-aggregate-labelled-2 c = search rules
 
 labelled-requires-2 : tie.Need-labelled-y-requires
 labelled-requires-2 c κs = search rules
 
-slice-aggregate-labelled-3 : tie.Need-slice-aggregate-labelled-3
-slice-aggregate-labelled-3 c = search rules
-
 labelled-requires-3 : tie.Need-labelled-brightness-requires
 labelled-requires-3 c κs = search rules
-
-slice-aggregate-word : tie.Need-slice-aggregate-word
-slice-aggregate-word c = search rules
 
 word-requires : tie.Need-word-requires
 word-requires c κs = search rules
@@ -48,13 +36,9 @@ pub measured_spec : {M : Type 1} → statement M
 measured_spec =
     tie.close
     (tie.spec
-    slice-aggregate-labelled
     labelled-requires
-    slice-aggregate-labelled-2
     labelled-requires-2
-    slice-aggregate-labelled-3
     labelled-requires-3
-    slice-aggregate-word
     word-requires
     same_length
     returns)

@@ -9,14 +9,8 @@ use Rattle.desk_lines.proofs.pixel.pair.Tie as tie
 labelled-requires : tie.Need-labelled-first-requires
 labelled-requires c κs = search rules
 
-slice-aggregate-labelled : tie.Need-slice-aggregate-labelled
-slice-aggregate-labelled c = search rules
-
 labelled-requires-2 : tie.Need-labelled-second-requires
 labelled-requires-2 c κs = search rules
-
-slice-aggregate-word : tie.Need-slice-aggregate-word
-slice-aggregate-word c = search rules
 
 word-requires : tie.Need-word-requires
 word-requires c κs = search rules
@@ -39,9 +33,7 @@ pair_spec =
     tie.close
     (tie.spec
     labelled-requires
-    slice-aggregate-labelled
     labelled-requires-2
-    slice-aggregate-word
     word-requires
     same_length
     returns)

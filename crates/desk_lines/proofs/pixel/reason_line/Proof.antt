@@ -16,9 +16,6 @@ told e p = rw e p
 enum-known-reason : tie.Need-enum_known-reason
 enum-known-reason c = search rules
 
-slice-aggregate-pair : tie.Need-slice-aggregate-pair
-slice-aggregate-pair c = search rules
-
 cast-pair : tie.Need-overflow_cast-sample
 cast-pair c = search rules
 
@@ -27,9 +24,6 @@ pair-requires c κs = search rules
 
 enum-known-reason-2 : tie.Need-enum_known-reason-in-Beaten-1
 enum-known-reason-2 c = search rules
-
-slice-aggregate-pair-2 : tie.Need-slice-aggregate-pair-2
-slice-aggregate-pair-2 c = search rules
 
 pair-requires-2 : tie.Need-pair-requires-in-Beaten
 pair-requires-2 c κs = search rules
@@ -60,56 +54,44 @@ same_length c = search rules
 
 returns : tie.Need-returns-in-Dark
 returns c =
-    let w = c.before.before in
-    let t : tie.In-Dark-2 = search rules in
-    (told t.in-Dark.is w.pair.ensures.0, omega (arith, w.pair.ensures.1))
+    (told c.in-Dark.is c.pair.ensures.0, omega (arith, c.pair.ensures.1))
 
 same-length-2 : tie.Need-shape_of-room-in-Beaten
 same-length-2 c = search rules
 
 returns-2 : tie.Need-returns-in-Beaten
 returns-2 c =
-    let w = c.before.before in
-    let t : tie.In-Beaten-2 = search rules in
-    (told t.in-Beaten.is w.pair-in-Beaten.ensures.0, omega (arith, w.pair-in-Beaten.ensures.1))
+    (told c.in-Beaten.is c.pair-in-Beaten.ensures.0, omega (arith, c.pair-in-Beaten.ensures.1))
 
 same-length-3 : tie.Need-shape_of-room-in-Edge
 same-length-3 c = search rules
 
 returns-3 : tie.Need-returns-in-Edge
 returns-3 c =
-    let w = c.before.before in
-    let t : tie.In-Edge-2 = search rules in
-    (told t.in-Edge.is w.side_line.ensures.0, omega (arith, w.side_line.ensures.1))
+    (told c.in-Edge.is c.side_line.ensures.0, omega (arith, c.side_line.ensures.1))
 
 same-length-4 : tie.Need-shape_of-room-in-Lone
 same-length-4 c = search rules
 
 returns-4 : tie.Need-returns-in-Lone
 returns-4 c =
-    let w = c.before.before in
-    let t : tie.In-Lone-2 = search rules in
-    (told t.in-Lone.is w.lone.ensures.0, omega (arith, w.lone.ensures.1))
+    (told c.in-Lone.is c.lone.ensures.0, omega (arith, c.lone.ensures.1))
 
 same-length-5 : tie.Need-shape_of-room-in-Measured
 same-length-5 c = search rules
 
 returns-5 : tie.Need-returns-in-Measured
 returns-5 c =
-    let w = c.before.before in
-    let t : tie.In-Measured-2 = search rules in
-    (told t.in-Measured.is w.measured.ensures.0, omega (arith, w.measured.ensures.1))
+    (told c.in-Measured.is c.measured.ensures.0, omega (arith, c.measured.ensures.1))
 
 pub reason_line_spec : {M : Type 1} → statement M
 reason_line_spec =
     tie.close
     (tie.spec
     enum-known-reason
-    slice-aggregate-pair
     cast-pair
     pair-requires
     enum-known-reason-2
-    slice-aggregate-pair-2
     pair-requires-2
     enum-known-reason-3
     side-line-requires

@@ -17,17 +17,11 @@ told e p = rw e p
 enum_told : tie.Need-enum_told-1
 enum_told c = search rules
 
-slice-aggregate-word : tie.Need-slice-aggregate-word
-slice-aggregate-word c = search rules
-
 word-requires : tie.Need-word-requires
 word-requires c κs = search rules
 
 enum-told-2 : tie.Need-enum_told-in-Right
 enum-told-2 c = search rules
-
-slice-aggregate-word-2 : tie.Need-slice-aggregate-word-2
-slice-aggregate-word-2 c = search rules
 
 word-requires-2 : tie.Need-word-requires-in-Right
 word-requires-2 c κs = search rules
@@ -35,17 +29,11 @@ word-requires-2 c κs = search rules
 enum-told-3 : tie.Need-enum_told-in-Top
 enum-told-3 c = search rules
 
-slice-aggregate-word-3 : tie.Need-slice-aggregate-word-3
-slice-aggregate-word-3 c = search rules
-
 word-requires-3 : tie.Need-word-requires-in-Top
 word-requires-3 c κs = search rules
 
 enum-told-4 : tie.Need-enum_told-in-Bottom
 enum-told-4 c = search rules
-
-slice-aggregate-word-4 : tie.Need-slice-aggregate-word-4
-slice-aggregate-word-4 c = search rules
 
 word-requires-4 : tie.Need-word-requires-in-Bottom
 word-requires-4 c κs = search rules
@@ -55,52 +43,44 @@ same_length c = search rules
 
 returns : tie.Need-returns-in-Left
 returns c =
-    let w = c.before.before in
     let t : tie.In-Left = search rules in
-    (told {t = Left} t.in-Left.is w.word.ensures, omega (arith, w.word.ensures.place))
+    (told {t = Left} t.in-Left.is c.word.ensures, omega (arith, c.word.ensures.place))
 
 same-length-2 : tie.Need-shape_of-room-in-Right
 same-length-2 c = search rules
 
 returns-2 : tie.Need-returns-in-Right
 returns-2 c =
-    let w = c.before.before in
     let t : tie.In-Right = search rules in
-    (told {t = Right} t.in-Right.is w.word-in-Right.ensures, omega (arith, w.word-in-Right.ensures.place))
+    (told {t = Right} t.in-Right.is c.word-in-Right.ensures, omega (arith, c.word-in-Right.ensures.place))
 
 same-length-3 : tie.Need-shape_of-room-in-Top
 same-length-3 c = search rules
 
 returns-3 : tie.Need-returns-in-Top
 returns-3 c =
-    let w = c.before.before in
     let t : tie.In-Top = search rules in
-    (told {t = Top} t.in-Top.is w.word-in-Top.ensures, omega (arith, w.word-in-Top.ensures.place))
+    (told {t = Top} t.in-Top.is c.word-in-Top.ensures, omega (arith, c.word-in-Top.ensures.place))
 
 same-length-4 : tie.Need-shape_of-room-in-Bottom
 same-length-4 c = search rules
 
 returns-4 : tie.Need-returns-in-Bottom
 returns-4 c =
-    let w = c.before.before in
     let t : tie.In-Bottom = search rules in
-    (told {t = Bottom} t.in-Bottom.is w.word-in-Bottom.ensures, omega (arith, w.word-in-Bottom.ensures.place))
+    (told {t = Bottom} t.in-Bottom.is c.word-in-Bottom.ensures, omega (arith, c.word-in-Bottom.ensures.place))
 
 pub side_line_spec : {M : Type 1} → statement M
 side_line_spec =
     tie.close
     (tie.spec
     enum_told
-    slice-aggregate-word
     word-requires
     enum-told-2
-    slice-aggregate-word-2
     word-requires-2
     enum-told-3
-    slice-aggregate-word-3
     word-requires-3
     enum-told-4
-    slice-aggregate-word-4
     word-requires-4
     same_length
     returns

@@ -56,29 +56,18 @@ same_length c = search rules
 
 returns-2 : tie.Need-returns-in-Refused
 returns-2 c =
-    let w = c.before.before in
-    let k : tie.In-Refused-2 = search rules in
-    let f : tie.After-read_settings-reading = search rules in
-    let e : tie.Else-room-lt-LINE = search rules in
-    let a : tie.Start = search rules in
-    let t = refused-line a.args.settings.now a.args.frame.now a.args.row a.args.column _ (sym f.read_settings-reading.ensures.0
-    ∙ k.in-Refused.is) in
-    room-told 128 _ _ _ _ _ 72 e.if-room-lt-LINE.left (omega (arith, w.refused.ensures.1)) (omega arith) t w.refused.ensures.0
+    let t = refused-line c.args.settings.now c.args.frame.now c.args.row c.args.column _ (sym c.read_settings-reading.ensures.0
+    ∙ c.in-Refused.is) in
+    room-told 128 _ _ _ _ _ 72 c.if-room-lt-LINE.false (omega (arith, c.refused.ensures.1)) (omega arith) t c.refused.ensures.0
 
 same-length-2 : tie.Need-shape_of-room-in-Read
 same-length-2 c = search rules
 
 returns-3 : tie.Need-returns-in-Read
 returns-3 c =
-    let w = c.before.before in
-    let x : tie.After-explain-explanation = search rules in
-    let k : tie.In-Read-2 = search rules in
-    let f : tie.After-read_settings-reading = search rules in
-    let e : tie.Else-room-lt-LINE = search rules in
-    let a : tie.Start = search rules in
-    let t = read-line a.args.settings.now a.args.frame.now a.args.row a.args.column _ _ (sym f.read_settings-reading.ensures.0
-    ∙ k.in-Read.is) x.explain-explanation.ensures in
-    room-told 128 _ _ _ _ _ 72 e.if-room-lt-LINE.left w.line.ensures.1 (omega arith) t w.line.ensures.0
+    let t = read-line c.args.settings.now c.args.frame.now c.args.row c.args.column _ _ (sym c.read_settings-reading.ensures.0
+    ∙ c.in-Read.is) c.explain-explanation.ensures in
+    room-told 128 _ _ _ _ _ 72 c.if-room-lt-LINE.false c.line.ensures.1 (omega arith) t c.line.ensures.0
 
 pub why_spec : {M : Type 1} → statement M
 why_spec =

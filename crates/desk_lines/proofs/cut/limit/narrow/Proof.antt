@@ -16,11 +16,11 @@ read : (c : tie.Start) → to_z w64 (of_z w64 c.args.z) ≡ c.args.z
 read c = to_z-of_z w64 c.args.z c.ranges.z
 
 -- 32 bits hold what passed both tests
-narrow : (c : tie.Else-z-gt-GREATEST) → mag c.before.before.args.z < 2147483648
+narrow : (c : tie.Else-z-gt-GREATEST) → mag c.args.z < 2147483648
 narrow c =
     let s = c.before.before in
     let e = read s in
-    held s.args.z (ap (λ (v : ℤ). lt_z v (negsuc 2147483647)) (sym e) ∙ c.before.if-z-lt-LEAST.false) (ap (λ (v : ℤ). lt_z (pos 2147483647) v) (sym e) ∙ c.if-z-gt-GREATEST.false)
+    held s.args.z (ap (λ (v : ℤ). lt_z v (negsuc 2147483647)) (sym e) ∙ c.if-z-lt-LEAST.false) (ap (λ (v : ℤ). lt_z (pos 2147483647) v) (sym e) ∙ c.if-z-gt-GREATEST.false)
 
 returns : tie.Need-returns-then-z-lt-LEAST
 returns c = let s = c.before in sym (too-low s.args.z (ap (λ (v : ℤ). lt_z v (negsuc 2147483647)) (sym (read s)) ∙ c.if-z-lt-LEAST.true))

@@ -23,15 +23,14 @@ narrow-requires : tie.Need-narrow-requires
 narrow-requires c κs = search rules
 
 returns : tie.Need-returns-in-NoNumber
-returns c = told _ (ap (λ (x : Signed). narrowed x) (sym c.in-NoNumber.is ∙ c.before.parse_signed-number.ensures.0))
+returns c = told _ (ap (λ (x : Signed). narrowed x) (sym c.in-NoNumber.is ∙ c.parse_signed-number.ensures.0))
 
 returns-2 : tie.Need-returns-in-Number
 returns-2 c =
-    let k = c.before in
-    let z = k.in-Number.field-0 in
-    let f : SFits w64 z = record { sfits = c.before.in-Number.field-1 } in
-    told _ (c.narrow.ensures ∙ ap limit_for (to_z-of_z w64 z f) ∙ ap (λ (x : Signed). narrowed x) (sym k.in-Number.is
-    ∙ k.before.parse_signed-number.ensures.0))
+    let z = c.in-Number.z in
+    let f : SFits w64 z = record { sfits = c.in-Number.known_told-1-own.given.0.1 } in
+    told _ (c.narrow.ensures ∙ ap limit_for (to_z-of_z w64 z f) ∙ ap (λ (x : Signed). narrowed x) (sym c.in-Number.is
+    ∙ c.parse_signed-number.ensures.0))
 
 pub parse_limit_spec : {M : Type 1} → statement M
 parse_limit_spec =
