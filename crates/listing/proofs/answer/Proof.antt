@@ -80,8 +80,8 @@ returns c =
     let w = c.before.before in
     let o = w.before.before.before in
     let t = o.before.before.before.before.before in (
-      subst (λ (x : List ℕ). Wrote (start t).args.room.now 0 x w.refused.new.1.1.1.1.1.0 w.refused.result)
-          (sym (refused-answer (chain t) o.in-Refused.field-0 (outcome-is t o.in-Refused.is))) w.refused.ensures.0,
+      subst (λ (x : List ℕ). Wrote (start t).args.room.now 0 x w.refused.new.room w.refused.result)
+          (sym (refused-answer (chain t) o.in-Refused.r (outcome-is t o.in-Refused.is))) w.refused.ensures.0,
       omega (arith, w.refused.ensures.1),
     )
 
@@ -95,7 +95,7 @@ returns-2 c =
     let e = w1.before.before in
     let t = e.before.before.before.before.before in
     let catalogue = (start t).args.catalogue.now in (
-      subst (λ (x : List ℕ). Wrote (start t).args.room.now 0 x w2.matrix.new.0 w2.matrix.result) (ap (accepted_text catalogue) (tracked-is t)
+      subst (λ (x : List ℕ). Wrote (start t).args.room.now 0 x w2.matrix.new.room w2.matrix.result) (ap (accepted_text catalogue) (tracked-is t)
           ∙ sym (accepted-answer (chain t) (outcome-is t e.in-Accepted.is)))
           (joined catalogue t.track-tracked.result w1.report-next.ensures.0 w2.matrix.ensures.0),
       omega (arith, w1.report-next.ensures.1, w2.matrix.ensures.1),

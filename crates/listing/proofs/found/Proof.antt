@@ -33,7 +33,7 @@ mul_words : tie.Need-overflow_mul-words
 mul_words c = omega (arith, words c, words-few _ _ _ (start c).requires.refuses (start c).requires.close)
 
 slice-aggregate-names : tie.Need-slice_bounds-names-end
-slice-aggregate-names c = sym (length-take-le _ _ (there c.before))
+slice-aggregate-names c = sym (length-take-le _ _ (there c))
 
 names-requires : tie.Need-names-names-requires
 names-requires c κs = search rules
@@ -41,7 +41,7 @@ names-requires c κs = search rules
 returns : tie.Need-returns
 returns c =
     let n = c.before in
-    let o = n.before.before in
+    let o = n.before in
     let s = start o in
     ap (λ (x : Identification). x.stars)
     (n.names-names.ensures

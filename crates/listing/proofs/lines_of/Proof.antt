@@ -32,20 +32,14 @@ same_length c = search rules
 
 returns : tie.Need-returns-in-Listing
 returns c =
-    let w = c.before.before in
-    let t : tie.In-Listing = search rules in
-    let s : tie.Start = search rules in
-    told (chain_on s.args.samples.now s.args.catalogue.now s.args.settings) t.in-Listing.is w.answer.ensures
+    told (chain_on c.args.samples.now c.args.catalogue.now c.args.settings) c.in-Listing.is c.answer.ensures
 
 same-length-2 : tie.Need-shape_of-room-in-Rival
 same-length-2 c = search rules
 
 returns-2 : tie.Need-returns-in-Rival
 returns-2 c =
-    let w = c.before.before in
-    let t : tie.In-Rival = search rules in
-    let s : tie.Start = search rules in
-    told (chain_on s.args.samples.now s.args.catalogue.now s.args.settings) t.in-Rival.is w.rivals.ensures
+    told (chain_on c.args.samples.now c.args.catalogue.now c.args.settings) c.in-Rival.is c.rivals.ensures
 
 pub lines_of_spec : {M : Type 1} → statement M
 lines_of_spec =

@@ -15,10 +15,10 @@ use Rattle.listing.proofs.listed.Tie as tie
 abbrev start : tie.After-read_samples-count → tie.Start
 start c = c.before.before.before.before.before
 
-within : (c : tie.After-read_samples-count) → c.read_samples-count.result ≤ length c.read_samples-count.new.1.1.1.0
+within : (c : tie.After-read_samples-count) → c.read_samples-count.result ≤ length c.read_samples-count.new.room
 within c = lent-within _ _ _ _ c.read_samples-count.ensures.1
 
-samples-are : (c : tie.After-read_samples-count) → take c.read_samples-count.result c.read_samples-count.new.1.1.1.0 ≡ samples_in (start c).args.frame.now
+samples-are : (c : tie.After-read_samples-count) → take c.read_samples-count.result c.read_samples-count.new.room ≡ samples_in (start c).args.frame.now
     (start c).args.settings
 samples-are c = lent-samples _ _ _ _ _ _ c.read_samples-count.ensures.1 c.read_samples-count.ensures.0
 
@@ -45,7 +45,7 @@ returns c =
     let w = c.before.before in
     let r = w.before.before.before.before in
     let a = (start r).args in (
-      subst (λ (xs : List ℕ). Wrote a.room.now 0 (lines_of a.asked (chain_on xs a.catalogue.now a.settings)) w.lines_of.new.1.1.1.1.0
+      subst (λ (xs : List ℕ). Wrote a.room.now 0 (lines_of a.asked (chain_on xs a.catalogue.now a.settings)) w.lines_of.new.room
           w.lines_of.result) (samples-are r) w.lines_of.ensures.0,
       w.lines_of.ensures.1,
     )

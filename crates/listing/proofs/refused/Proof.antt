@@ -65,8 +65,8 @@ returns c =
     let w = c.before.before in
     let t = w.before.before in
     let s = start t.before in (
-      subst (λ (x : List ℕ). Wrote s.args.room.now 0 x w.refused.new.0 w.refused.result)
-          (sym (alone-text (chain s) s.args.refusal (sym t.before.is_early.ensures ∙ t.if-is_early.true))) w.refused.ensures.0,
+      subst (λ (x : List ℕ). Wrote s.args.room.now 0 x w.refused.new.room w.refused.result)
+          (sym (alone-text (chain s) s.args.refusal (sym t.is_early.ensures ∙ t.if-is_early.true))) w.refused.ensures.0,
       omega (arith, w.refused.ensures.1),
     )
 
@@ -94,8 +94,8 @@ returns-2 c =
     let f = w1.before.before in
     let l = f.before.before.before.before in
     let s = start l.before.before in (
-      with-names (chain s) s.args.refusal _ (same-report l) _ f.found-words.ensures (sym l.before.before.is_early.ensures ∙ l.before.if-is_early.false)
-          f.before.if-refusal-eq-CLOSE.true w1.report-next.ensures.0 w2.refused-then-refusal-eq-CLOSE.ensures.0,
+      with-names (chain s) s.args.refusal _ (same-report l) _ f.found-words.ensures (sym l.is_early.ensures ∙ l.if-is_early.false)
+          f.if-refusal-eq-CLOSE.true w1.report-next.ensures.0 w2.refused-then-refusal-eq-CLOSE.ensures.0,
       omega (arith, w1.report-next.ensures.1, w2.refused-then-refusal-eq-CLOSE.ensures.1),
     )
 
@@ -115,7 +115,7 @@ returns-3 c =
     let e = w1.before.before in
     let l = e.before.before.before in
     let s = start l.before.before in (
-      without-names (chain s) s.args.refusal _ (same-report l) (sym l.before.before.is_early.ensures ∙ l.before.if-is_early.false) e.if-refusal-eq-CLOSE.false
+      without-names (chain s) s.args.refusal _ (same-report l) (sym l.is_early.ensures ∙ l.if-is_early.false) e.if-refusal-eq-CLOSE.false
           w1.report-next-2.ensures.0 w2.refused-2.ensures.0,
       omega (arith, w1.report-next-2.ensures.1, w2.refused-2.ensures.1),
     )

@@ -64,8 +64,8 @@ returns-2 c =
     let k = w.before.before in
     let e = k.before.before in
     let a = (start e).args in
-    let t = refused-text a.asked a.settings.now a.frame.now a.catalogue.now k.in-Refused.field-0
-    (sym k.before.read_settings.ensures.0 ∙ k.in-Refused.is) in
+    let t = refused-text a.asked a.settings.now a.frame.now a.catalogue.now k.in-Refused.r
+    (sym k.read_settings.ensures.0 ∙ k.in-Refused.is) in
     room-told 2048 _ _ _ _ _ _ e.if-room-lt-ROOM.false (omega (arith, w.refused.ensures.1, (most a.asked).0)) (most a.asked).1 t w.refused.ensures.0
 
 same-length-2 : tie.Need-shape_of-room-in-Read
@@ -77,7 +77,7 @@ returns-3 c =
     let k = w.before.before in
     let e = k.before.before in
     let a = (start e).args in
-    let t = read-text a.asked a.settings.now a.frame.now a.catalogue.now k.in-Read.field-0 (sym k.before.read_settings.ensures.0
+    let t = read-text a.asked a.settings.now a.frame.now a.catalogue.now k.in-Read.s (sym k.read_settings.ensures.0
     ∙ k.in-Read.is) in
     room-told 2048 _ _ _ _ _ _ e.if-room-lt-ROOM.false w.listed.ensures.1 (most a.asked).1 t w.listed.ensures.0
 

@@ -6,26 +6,14 @@ use Rattle.listing.specs.lines.Lines.{counts_line}
 use Rattle.listing.proofs.lines.counts.Statement.{statement}
 use Rattle.listing.proofs.lines.counts.Tie as tie
 
-slice-aggregate-labelled : tie.Need-slice-aggregate-labelled
-slice-aggregate-labelled c = search rules
-
 labelled-requires : tie.Need-labelled-measured-requires
 labelled-requires c κs = search rules
-
-slice-aggregate-labelled-2 : tie.Need-slice-aggregate-labelled-2
-slice-aggregate-labelled-2 c = search rules
 
 labelled-requires-2 : tie.Need-labelled-edge-requires
 labelled-requires-2 c κs = search rules
 
-slice-aggregate-labelled-3 : tie.Need-slice-aggregate-labelled-3
-slice-aggregate-labelled-3 c = search rules
-
 labelled-requires-3 : tie.Need-labelled-lone-requires
 labelled-requires-3 c κs = search rules
-
-slice-aggregate-word : tie.Need-slice-aggregate-word
-slice-aggregate-word c = search rules
 
 word-requires : tie.Need-word-requires
 word-requires c κs = search rules
@@ -48,13 +36,9 @@ pub counts_spec : {M : Type 1} → statement M
 counts_spec =
     tie.close
     (tie.spec
-    slice-aggregate-labelled
     labelled-requires
-    slice-aggregate-labelled-2
     labelled-requires-2
-    slice-aggregate-labelled-3
     labelled-requires-3
-    slice-aggregate-word
     word-requires
     same_length
     returns)

@@ -1,7 +1,7 @@
 -- `listing::lines::name` meets its contract, test by test. Assumes nothing.
 use borrow.Author.Rules.{rules}
-use borrow.Author.Tests.{lt-ltb, le-ltb, not-true, not-false}
-use mathlib.Core.Bool.{Bool, true, false, not}
+use borrow.Author.Tests.{lt-ltb, le-ltb}
+use mathlib.Core.Bool.{Bool, true, false}
 use mathlib.Core.Path.{◌≡◌}
 use mathlib.Core.List.{List, [], ◌∷◌}
 use Prim.Native.Nat.{ℕ, ◌≤◌, ◌<◌}
@@ -15,20 +15,17 @@ use Rattle.listing.proofs.lines.name.Statement.{statement}
 use Rattle.listing.proofs.lines.name.Tie as tie
 
 module _ {a b : List ℕ} {at to : ℕ} (names : Bool) (catalogue : List ℕ) (word : ℕ) where
-  hidden : not names ≡ true → Wrote a at (45 ∷ []) b to → Wrote a at (shown names catalogue word) b to
-  hidden h p = rw (not-true names h) p
+  hidden : names ≡ false → Wrote a at (45 ∷ []) b to → Wrote a at (shown names catalogue word) b to
+  hidden h p = rw h p
 
-  nameless : not names ≡ false → records_in catalogue ≤ word → Wrote a at (45 ∷ []) b to → Wrote a at (shown names catalogue word) b to
+  nameless : names ≡ true → records_in catalogue ≤ word → Wrote a at (45 ∷ []) b to → Wrote a at (shown names catalogue word) b to
   unfolding name_of
-  nameless h k p = rw (not-false names h, le-ltb word (records_in catalogue) k) p
+  nameless h k p = rw (h, le-ltb word (records_in catalogue) k) p
 
-  identified : {n : ℕ} → not names ≡ false → word < records_in catalogue → n ≡ identity_for catalogue word → Wrote a at (decimal n) b to
+  identified : {n : ℕ} → names ≡ true → word < records_in catalogue → n ≡ identity_for catalogue word → Wrote a at (decimal n) b to
       → Wrote a at (shown names catalogue word) b to
   unfolding name_of
-  identified h k e p = rw (not-false names h, lt-ltb word (records_in catalogue) k, ← e) p
-
-slice-aggregate-word : tie.Need-slice-aggregate-word
-slice-aggregate-word c = search rules
+  identified h k e p = rw (h, lt-ltb word (records_in catalogue) k, ← e) p
 
 word-requires : tie.Need-word-requires
 word-requires c κs = search rules
@@ -40,13 +37,10 @@ returns : tie.Need-returns-then-not-names
 returns c =
     let w = c.before.before in
     let t = w.before.before.before in
-    (hidden t.before.before.before.args.names _ _ t.if-not-names.true w.word.ensures, omega (arith, w.word.ensures.place))
+    (hidden t.args.names _ _ t.if-not-names.true w.word.ensures, omega (arith, w.word.ensures.place))
 
 records-requires : tie.Need-records-requires
 records-requires c κs = search rules
-
-slice-aggregate-word-2 : tie.Need-slice-aggregate-word-2
-slice-aggregate-word-2 c = search rules
 
 word-requires-2 : tie.Need-word-requires-then-records-i
 word-requires-2 c κs = search rules
@@ -58,8 +52,8 @@ returns-2 : tie.Need-returns-then-records-i
 returns-2 c =
     let w = c.before.before in
     let t = w.before.before.before in (
-      nameless t.before.before.before.before.before.args.names _ _ t.before.before.if-not-names.false
-          (omega (arith, t.before.records.ensures, t.if-records-i.true)) w.word-then-records-i.ensures,
+      nameless t.args.names _ _ t.if-not-names.false
+          (omega (arith, t.records.ensures, t.if-records-i.true)) w.word-then-records-i.ensures,
       omega (arith, w.word-then-records-i.ensures.place),
     )
 
@@ -79,8 +73,8 @@ returns-3 : tie.Need-returns
 returns-3 c =
     let w = c.before.before in
     let t = w.before.before.before in (
-      identified t.before.before.before.before.before.args.names _ _ t.before.before.if-not-names.false
-          (omega (arith, t.before.records.ensures, t.if-records-i.false)) w.before.identity.ensures w.number.ensures.0,
+      identified t.args.names _ _ t.if-not-names.false
+          (omega (arith, t.records.ensures, t.if-records-i.false)) w.identity.ensures w.number.ensures.0,
       w.number.ensures.1,
     )
 
@@ -88,12 +82,10 @@ pub name_spec : {M : Type 1} → statement M
 name_spec =
     tie.close
     (tie.spec
-    slice-aggregate-word
     word-requires
     same_length
     returns
     records-requires
-    slice-aggregate-word-2
     word-requires-2
     same-length-2
     returns-2

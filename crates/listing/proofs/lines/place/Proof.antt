@@ -9,26 +9,14 @@ use Rattle.listing.proofs.lines.place.Tie as tie
 number-requires : tie.Need-number-number-requires
 number-requires c κs = search rules
 
-slice-aggregate-labelled : tie.Need-slice-aggregate-labelled
-slice-aggregate-labelled c = search rules
-
 labelled-requires : tie.Need-labelled-x-requires
 labelled-requires c κs = search rules
-
-slice-aggregate-labelled-2 : tie.Need-slice-aggregate-labelled-2
-slice-aggregate-labelled-2 c = search rules
 
 labelled-requires-2 : tie.Need-labelled-y-requires
 labelled-requires-2 c κs = search rules
 
-slice-aggregate-labelled-3 : tie.Need-slice-aggregate-labelled-3
-slice-aggregate-labelled-3 c = search rules
-
 labelled-requires-3 : tie.Need-labelled-brightness-requires
 labelled-requires-3 c κs = search rules
-
-slice-aggregate-word : tie.Need-slice-aggregate-word
-slice-aggregate-word c = search rules
 
 word-requires : tie.Need-word-requires
 word-requires c κs = search rules
@@ -61,13 +49,9 @@ place_spec =
     tie.close
     (tie.spec
     number-requires
-    slice-aggregate-labelled
     labelled-requires
-    slice-aggregate-labelled-2
     labelled-requires-2
-    slice-aggregate-labelled-3
     labelled-requires-3
-    slice-aggregate-word
     word-requires
     same_length
     returns)

@@ -21,26 +21,17 @@ held-wrote {z = z} h p = rw (to_z-of_z w64 z h) at p
 signed-requires : tie.Need-signed-x-requires
 signed-requires c κs = search rules
 
-slice-aggregate-word : tie.Need-slice-aggregate-word
-slice-aggregate-word c = search rules
-
 word-requires : tie.Need-word-before_y-requires
 word-requires c κs = search rules
 
 signed-requires-2 : tie.Need-signed-y-requires
 signed-requires-2 c κs = search rules
 
-slice-aggregate-word-2 : tie.Need-slice-aggregate-word-2
-slice-aggregate-word-2 c = search rules
-
 word-requires-2 : tie.Need-word-before_z-requires
 word-requires-2 c κs = search rules
 
 signed-requires-3 : tie.Need-signed-z-requires
 signed-requires-3 c κs = search rules
-
-slice-aggregate-word-3 : tie.Need-slice-aggregate-word-3
-slice-aggregate-word-3 c = search rules
 
 word-requires-3 : tie.Need-word-requires
 word-requires-3 c κs = search rules
@@ -57,7 +48,7 @@ returns c =
     let w3 = w4.before.before.before.before.before in
     let w2 = w3.before.before.before.before.before in
     let w1 = w2.before.before.before.before.before in
-    let g = w1.before.struct_told-1.given in (
+    let g = w1.struct_told-1.given in (
       wrote_then (wrote_then (wrote_then (wrote_then (wrote_then (held-wrote (record { sfits = g.0.1 }) w1.signed-x.ensures.0) w2.word-before_y.ensures)
           (held-wrote (record { sfits = g.1.0.1 }) w3.signed-y.ensures.0)) w4.word-before_z.ensures)
           (held-wrote (record { sfits = g.1.1.0.1 }) w5.signed-z.ensures.0)) w6.word.ensures,
@@ -77,13 +68,10 @@ row_spec =
     tie.close
     (tie.spec
     signed-requires
-    slice-aggregate-word
     word-requires
     signed-requires-2
-    slice-aggregate-word-2
     word-requires-2
     signed-requires-3
-    slice-aggregate-word-3
     word-requires-3
     same_length
     returns)

@@ -12,9 +12,6 @@ place-requires c κs = search rules
 name-requires : tie.Need-name-named-requires
 name-requires c κs = search rules
 
-slice-aggregate-word : tie.Need-slice-aggregate-word
-slice-aggregate-word c = search rules
-
 word-requires : tie.Need-word-requires
 word-requires c κs = search rules
 
@@ -34,4 +31,4 @@ returns c =
 pub star_spec : {M : Type 1} → statement M
 star_spec =
     tie.close
-    (tie.spec place-requires name-requires slice-aggregate-word word-requires same_length returns)
+    (tie.spec place-requires name-requires word-requires same_length returns)

@@ -59,14 +59,13 @@ loop-again c =
     (omega arith, further _ _ o.loop-k.k o.loop-k.invariant.1 b.star-next.ensures.0, omega (arith, b.star-next.ensures.1, o.loop-k.invariant.2))
 
 same_length : tie.Need-shape_of-room invariant-loop decreases-loop
-same_length c = wrote-length c.before.loop-k.invariant.1
+same_length c = wrote-length c.loop-k.invariant.1
 
 returns : tie.Need-returns invariant-loop decreases-loop
 returns c =
-    let l = c.before.loop-k in
-    let s = c.before.before.before.before in
-    let e : l.k ≡ s.args.count = omega arith in
-    (rw (← e) l.invariant.1, omega (arith, l.invariant.2, s.requires))
+    let l = c.loop-k in
+    let e : l.k ≡ c.args.count = omega arith in
+    (rw (← e) l.invariant.1, omega (arith, l.invariant.2, c.requires))
 
 pub star_lines_spec : {M : Type 1} → statement M
 star_lines_spec =

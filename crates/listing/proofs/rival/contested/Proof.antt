@@ -58,11 +58,8 @@ returns c =
     let w = c.before.before in
     let i = w.before.before in
     let e = i.before in
-    let a = c.before.before.before.before.before.before.before.before.before.args in
+    let a = c.args in
     (told (rival-text a.report a.catalogue.now a.contest e.in-Accepted.is i.if-contest.true) w.stars.ensures.0, w.stars.ensures.1)
-
-slice-aggregate-word : tie.Need-slice-aggregate-word
-slice-aggregate-word c = search rules
 
 word-requires : tie.Need-word-requires
 word-requires c κs = search rules
@@ -74,7 +71,7 @@ returns-2 : tie.Need-returns-in-Refused
 returns-2 c =
     let w = c.before.before in
     let k = w.before.before in
-    let a = c.before.before.before.before.before.before.before.before.args in
+    let a = c.args in
     (told (refused-text a.report a.catalogue.now a.contest _ k.in-Refused.is) w.refused.ensures.0, omega (arith, w.refused.ensures.1))
 
 same-length-3 : tie.Need-shape_of-room-else-contest
@@ -85,7 +82,7 @@ returns-3 c =
     let w = c.before.before in
     let i = w.before.before.before in
     let e = i.before in
-    let a = c.before.before.before.before.before.before.before.before.before.before.args in (
+    let a = c.args in (
       told (alone-text a.report a.catalogue.now a.contest e.in-Accepted.is i.if-contest.false) w.word.ensures,
       omega (arith, w.word.ensures.place),
     )
@@ -100,7 +97,6 @@ contested_spec =
     stars-requires
     same_length
     returns
-    slice-aggregate-word
     word-requires
     same-length-2
     returns-2

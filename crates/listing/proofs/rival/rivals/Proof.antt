@@ -36,12 +36,9 @@ same_length c = search rules
 
 returns : tie.Need-returns
 returns c =
-    let w = c.before.before in
-    let l : tie.After-list-listing = search rules in
-    let k : tie.After-contest-contest = search rules in
-    let a = c.before.before.before.before.before.before.before.before.before.before.before.args in (
-      told (chain_on a.samples.now a.catalogue.now a.settings) _ _ l.list-listing.ensures k.contest-contest.ensures.0 w.contested.ensures.0,
-      w.contested.ensures.1,
+    let a = c.args in (
+      told (chain_on a.samples.now a.catalogue.now a.settings) _ _ c.list-listing.ensures c.contest-contest.ensures.0 c.contested.ensures.0,
+      c.contested.ensures.1,
     )
 
 pub rivals_spec : {M : Type 1} → statement M
