@@ -1,5 +1,5 @@
 -- The call's answer and room step by step, as the code meets them. Assumes nothing.
-use Rattle.std.specs.Prelude.{true, false, ◌≡◌, refl, List, ◌++◌, ℕ, ◌*◌, ℤ, length, drop}
+use Rattle.std.specs.Prelude.{true, false, ◌≡◌, List, ◌++◌, ℕ, ◌*◌, ℤ, length, drop}
 use Rattle.std.proofs.Math.Bool.{not}
 use Rattle.std.proofs.Common.{sym, ◌∙◌, arith}
 use Rattle.std.proofs.Math.Path.{ap}
@@ -7,7 +7,7 @@ use Rattle.refusal.specs.declared.Refusal.{Refusal}
 use Rattle.refusal.specs.declared.Outcome.{Outcome}
 use Rattle.refusal.specs.declared.Outcome.TheVariants.{Accepted, Refused}
 use Rattle.refusal.specs.Numbers as number
-use Rattle.refusal.specs.Table.{refusal_of, first_applying, answered, otherwise}
+use Rattle.refusal.specs.Table.{refusal_of, first_applying, otherwise}
 use Rattle.refusal.specs.Laws.{applying-here, applying-next, applying-append}
 use Rattle.catalogue.specs.Format.{records_in}
 use Rattle.catalogue.specs.Check as catalogue

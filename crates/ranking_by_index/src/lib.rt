@@ -7,6 +7,7 @@ ghost use Rattle.std.specs.Prelude.{◌≡◌, ◌++◌, ◌*◌, ◌<◌, ◌�
 ghost use Rattle.refusal.specs.Answer.{answer_of};
 ghost use Rattle.vectors.specs.Triples.{triples, Listed};
 ghost use Rattle.ranking.specs.Ranking.{row_of, ranking_of};
+ghost use Rattle.catalogue.specs.Stars.{stars_of};
 ghost use Rattle.catalogue_index.specs.Index.{bytes_from, index_of};
 ghost use Rattle.ranking_by_index.specs.Call.{call, outcome_of, room_after, answer_for};
 ghost use Rattle.ranking_by_index.specs.Stars.{outcome_from, room_from};
@@ -137,6 +138,30 @@ pub fn rank(
             let numbers = catalogue::stars(catalogue);
             let end = 3 * n;
             rank_from(directions, &numbers[..end], index, floor, tolerance, room)
+        }
+    }
+}
+
+// The same with an index that the caller has tested for this catalogue and floor.
+pub fn rank_trusting_index(
+    directions: &[i32],
+    catalogue: &[u8],
+    index: &[u8],
+    floor: i64,
+    tolerance: u64,
+    room: &mut [u16],
+) -> Outcome
+    requires { index.now ≡ index_of (stars_of catalogue.now) floor }
+    ensures value { result ≡ outcome_of (call directions.now catalogue.now index.now floor tolerance room.old) }
+    ensures room_after { room.new ≡ room_after (call directions.now catalogue.now index.now floor tolerance room.old) }
+{
+    let checked = catalogue::check(catalogue);
+    match checked {
+        Counted::Refused(r) => Outcome::Refused(r),
+        Counted::Count(n) => {
+            let numbers = catalogue::stars(catalogue);
+            let end = 3 * n;
+            rank_right(directions, &numbers[..end], index, floor, tolerance, room)
         }
     }
 }

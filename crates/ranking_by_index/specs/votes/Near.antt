@@ -1,7 +1,6 @@
 -- Agreement as a span: two dot products agree exactly where one, moved up, lies in the span around the other. Assumes nothing.
-use Rattle.std.specs.Prelude.{cond, ◌&&◌, ◌≡◌, ℕ, zero, suc, ◌+◌, ◌-◌, ◌≤◌, ◌<◌, leb, ℤ, pos, negsuc, nat_abs, ◌-ℤ◌}
-use Rattle.std.proofs.Math.Bool.{and-false}
-use Rattle.std.proofs.Common.{sym, ap, ◌∙◌, arith, le-leb, SFits}
+use Rattle.std.specs.Prelude.{◌&&◌, ◌≡◌, ℕ, zero, suc, ◌+◌, ◌-◌, ◌≤◌, leb, ℤ, pos, negsuc, nat_abs, ◌-ℤ◌}
+use Rattle.std.proofs.Common.{sym, ◌∙◌, arith, le-leb, SFits}
 use Rattle.std.proofs.Math.Decide.{dec_le}
 use Rattle.std.proofs.lemmas.Bool.{lt-leb}
 use Rattle.std.specs.Int.{w64}

@@ -1,8 +1,8 @@
 -- The votes of a span of the index are the votes by the plain rule, for one pair of directions. Assumes nothing.
-use Rattle.std.specs.Prelude.{Bool, true, not, ◌&&◌, ◌≡◌, List, [], ◌∷◌, ◌++◌, ltb, leb, eqb, ℤ, length, get_or}
+use Rattle.std.specs.Prelude.{Bool, true, ◌&&◌, ◌≡◌, List, [], ◌∷◌, ◌++◌, ltb, leb, eqb, ℤ, length, get_or}
 use Rattle.std.proofs.Math.Bool.{false, cond}
 use Rattle.std.proofs.Math.Path.{refl, sym, ap}
-use Rattle.std.proofs.Common.{◌∙◌, add-zero, ltb-true, lt-ltb, le-ltb, eq-eqb, ne_eqb, le-leb, SFits}
+use Rattle.std.proofs.Common.{◌∙◌, add-zero, lt-ltb, le-ltb, eq-eqb, ne_eqb, SFits}
 use Prim.Native.Nat.{ℕ, zero, suc, ◌+◌, ◌*◌, ◌-◌, ◌/◌, ◌%◌, ◌≤◌, ◌<◌}
 use Rattle.std.proofs.Math.Decide.{ℕ_discrete, dec_lt, dec_le}
 use native.Mathlib.Omega.{arith}
@@ -10,24 +10,22 @@ use Rattle.std.proofs.lemmas.Bool.{lt-leb}
 use Rattle.std.specs.Int.{w64}
 use Rattle.vectors.specs.Triples.{triples, Listed, pair_dot}
 use Rattle.vectors.specs.Laws.{pair_comm}
-use Rattle.vectors.specs.Agree.{agreeing}
 use Rattle.lists.specs.Number.{one, number}
 use Rattle.lists.specs.NumberLaws.{number_same}
 use Rattle.ranking_votes.specs.Votes.{other}
-use Rattle.catalogue_index.specs.records.Format.{high_at, low_at, key_from, key_at, encoded}
+use Rattle.catalogue_index.specs.records.Format.{high_at, low_at, key_from, encoded}
 use Rattle.catalogue_index.specs.records.Order.{insert, sorted}
-use Rattle.catalogue_index.specs.records.OrderLaws.{sorted-length, sorted_all}
+use Rattle.catalogue_index.specs.records.OrderLaws.{sorted_all}
 use Rattle.catalogue_index.specs.records.Gap.{Holds}
 use Rattle.catalogue_index.specs.records.Carry.{holds-length, holds-key}
 use Rattle.catalogue_index.specs.records.Read.{Bytes, low-most}
 use Rattle.lists.specs.Laws.{by-test}
 use Rattle.catalogue_index.specs.Raised.{raised}
-use Rattle.catalogue_index.specs.Index.{collected, key_of, entry_of, row_of, pairs_of, index_of}
-use Rattle.catalogue_index.specs.IndexSteps.{entry-taken, entry-left, index_is}
+use Rattle.catalogue_index.specs.Index.{collected, key_of, entry_of, row_of, pairs_of}
+use Rattle.catalogue_index.specs.IndexSteps.{entry-taken, entry-left}
 use Rattle.catalogue_index.specs.KeyLaws.{dot-fits, pairs-keys}
 use Rattle.ranking_by_index.specs.votes.Span.{named, given, sum_to, span_votes, meets, in_span, row_votes, all_votes}
 use Rattle.ranking_by_index.specs.votes.Pair.{pair_votes, plain_votes}
-use Rattle.ranking_by_index.specs.votes.SpanLaws.{given_below}
 use Rattle.ranking_by_index.specs.votes.Near.{agree-span}
 
 -- ---- sums over a list

@@ -1,8 +1,8 @@
 -- `ranking_by_index::votes::votes_for` meets its contract: what the index votes and what the full catalogue votes are all votes. Assumes nothing.
 use mathlib.Core.Path.{◌≡◌, ◌∙◌}
-use Prim.Native.Nat.{ℕ, ◌+◌, ◌≤◌}
+use Prim.Native.Nat.{ℕ, ◌+◌}
 use native.Mathlib.Omega.{arith}
-use lib.ListN.{length, get_or, replicate, length-replicate}
+use lib.ListN.{get_or, length-replicate}
 use Rattle.vectors.specs.Triples.{triples}
 use Rattle.ranking_votes.specs.Progress.{Setting, setting, so_far}
 use Rattle.ranking_votes.specs.ProgressLaws.{at-zeros, all-counted}
