@@ -5,55 +5,63 @@ use crate::say;
 use frame_list::Judgement;
 use frame_verdict::Kind;
 use refusal::Outcome;
+use std::io;
 
-fn kind(kind: Kind) {
+fn kind(rt: &impl Print, kind: Kind) -> io::Result<()> {
     match kind {
-        Kind::Dark => say::text(b" dark"),
-        Kind::Beaten => say::text(b" beaten"),
-        Kind::Edge => say::text(b" edge"),
-        Kind::Lone => say::text(b" lone"),
+        Kind::Dark => say::text(rt, " dark"),
+        Kind::Beaten => say::text(rt, " beaten"),
+        Kind::Edge => say::text(rt, " edge"),
+        Kind::Lone => say::text(rt, " lone"),
         Kind::Measured(star) => {
-            say::text(b" measured");
-            say::number(star.x);
-            say::number(star.y);
-            say::number(star.brightness);
+            say::text(rt, " measured")?;
+            say::number(rt, star.x)?;
+            say::number(rt, star.y)?;
+            say::number(rt, star.brightness)
         }
     }
 }
 
-fn judgement(judgement: Judgement) {
+fn judgement(rt: &impl Print, judgement: Judgement) -> io::Result<()> {
     match judgement {
-        Judgement::Refused(refusal) => say::refused(refusal),
+        Judgement::Refused(refusal) => say::refused(rt, refusal),
         Judgement::Judged(verdict) => {
             let found = verdict.kind;
-            kind(found);
+            kind(rt, found)
         }
     }
 }
 
 // The verdict on one pixel.
-fn pixel(letter: &[u8], samples: &[u16], threshold: usize, row: usize, column: usize) {
-    say::text(letter);
-    judgement(frame_list::judge(samples, 7, 7, threshold, row, column));
-    say::end();
+fn pixel(
+    rt: &impl Print,
+    letter: &str,
+    samples: &[u16],
+    threshold: usize,
+    row: usize,
+    column: usize,
+) -> io::Result<()> {
+    say::text(rt, letter)?;
+    judgement(rt, frame_list::judge(samples, 7, 7, threshold, row, column))?;
+    say::end(rt)
 }
 
 // How many pixels of the frame are measured, edge and lone.
-fn counts(letter: &[u8], samples: &[u16], threshold: usize) {
-    say::text(letter);
+fn counts(rt: &impl Print, letter: &str, samples: &[u16], threshold: usize) -> io::Result<()> {
+    say::text(rt, letter)?;
     let listing = frame_list::list(samples, 7, 7, threshold);
     let outcome = listing.outcome;
     match outcome {
-        Outcome::Refused(refusal) => say::refused(refusal),
+        Outcome::Refused(refusal) => say::refused(rt, refusal)?,
         Outcome::Accepted => {
             let report = listing.report;
-            say::text(b" counts");
-            say::number(report.measured as u64);
-            say::number(report.edge as u64);
-            say::number(report.lone as u64);
+            say::text(rt, " counts")?;
+            say::number(rt, report.measured as u64)?;
+            say::number(rt, report.edge as u64)?;
+            say::number(rt, report.lone as u64)?;
         }
     }
-    say::end();
+    say::end(rt)
 }
 
 // Whether the pixel's verdict is beaten.
@@ -77,85 +85,89 @@ fn one(b: bool) -> u64
 // How many pixels of the frame are beaten.
 fn beaten_pixels(samples: &[u16], threshold: usize) -> u64 {
     let mut number: u64 = 0;
-    let mut k = 0;
-    while k < 49 {
+    for k in 0..49 {
         number += one(is_beaten(samples, threshold, k / 7, k % 7));
-        k += 1;
     }
     number
 }
 
-fn beaten(letter: &[u8], samples: &[u16], threshold: usize) {
-    say::text(letter);
-    say::text(b" beaten");
-    say::number(beaten_pixels(samples, threshold));
-    say::end();
+fn beaten(rt: &impl Print, letter: &str, samples: &[u16], threshold: usize) -> io::Result<()> {
+    say::text(rt, letter)?;
+    say::text(rt, " beaten")?;
+    say::number(rt, beaten_pixels(samples, threshold))?;
+    say::end(rt)
 }
 
 // A peak of 100 in the middle.
-fn peak(letter: &[u8], threshold: usize) {
+fn peak(rt: &impl Print, letter: &str, threshold: usize) -> io::Result<()> {
     let mut samples = [0u16; 49];
     samples[24] = 100;
-    pixel(letter, &samples, threshold, 3, 3);
-    counts(letter, &samples, threshold);
+    pixel(rt, letter, &samples, threshold, 3, 3)?;
+    counts(rt, letter, &samples, threshold)
 }
 
 // The same with one other sample.
-fn peak_with(letter: &[u8], place: usize, sample: u16, threshold: usize)
+fn peak_with(
+    rt: &impl Print,
+    letter: &str,
+    place: usize,
+    sample: u16,
+    threshold: usize,
+) -> io::Result<()>
     requires { place < 49 }
 {
     let mut samples = [0u16; 49];
     samples[24] = 100;
     samples[place] = sample;
-    pixel(letter, &samples, threshold, 3, 3);
-    counts(letter, &samples, threshold);
+    pixel(rt, letter, &samples, threshold, 3, 3)?;
+    counts(rt, letter, &samples, threshold)
 }
 
-fn case_b() {
+fn case_b(rt: &impl Print) -> io::Result<()> {
     let mut samples = [0u16; 49];
     samples[24] = 100;
     samples[25] = 100;
-    pixel(b"B", &samples, 50, 3, 3);
-    pixel(b"B", &samples, 50, 3, 4);
-    counts(b"B", &samples, 50);
+    pixel(rt, "B", &samples, 50, 3, 3)?;
+    pixel(rt, "B", &samples, 50, 3, 4)?;
+    counts(rt, "B", &samples, 50)
 }
 
-fn case_e() {
+fn case_e(rt: &impl Print) -> io::Result<()> {
     let mut samples = [0u16; 49];
     samples[23] = 100;
-    pixel(b"E", &samples, 50, 3, 2);
-    counts(b"E", &samples, 50);
+    pixel(rt, "E", &samples, 50, 3, 2)?;
+    counts(rt, "E", &samples, 50)
 }
 
-fn case_f() {
+fn case_f(rt: &impl Print) -> io::Result<()> {
     let samples = [4095u16; 49];
-    pixel(b"F", &samples, 4095, 0, 0);
-    beaten(b"F", &samples, 4095);
-    counts(b"F", &samples, 4095);
+    pixel(rt, "F", &samples, 4095, 0, 0)?;
+    beaten(rt, "F", &samples, 4095)?;
+    counts(rt, "F", &samples, 4095)
 }
 
-pub fn run() {
-    peak(b"A", 50);
-    case_b();
-    peak_with(b"C", 23, 50, 50);
-    peak_with(b"D", 0, 24, 50);
-    case_e();
-    case_f();
+pub fn run(rt: &impl Print) -> io::Result<()> {
+    peak(rt, "A", 50)?;
+    case_b(rt)?;
+    peak_with(rt, "C", 23, 50, 50)?;
+    peak_with(rt, "D", 0, 24, 50)?;
+    case_e(rt)?;
+    case_f(rt)
 }
 
-fn case_t() {
+fn case_t(rt: &impl Print) -> io::Result<()> {
     let mut samples = [0u16; 49];
     samples[24] = 100;
     samples[23] = 50;
     samples[25] = 50;
     samples[0] = 24;
-    pixel(b"T", &samples, 50, 3, 3);
-    counts(b"T", &samples, 50);
+    pixel(rt, "T", &samples, 50, 3, 3)?;
+    counts(rt, "T", &samples, 50)
 }
 
-pub fn run_lone() {
-    case_t();
-    peak_with(b"U", 16, 25, 51);
-    peak_with(b"V", 16, 24, 51);
-    peak(b"W", 1);
+pub fn run_lone(rt: &impl Print) -> io::Result<()> {
+    case_t(rt)?;
+    peak_with(rt, "U", 16, 25, 51)?;
+    peak_with(rt, "V", 16, 24, 51)?;
+    peak(rt, "W", 1)
 }

@@ -5,8 +5,10 @@ mod frames;
 mod say;
 mod sky;
 
-fn main() {
-    frames::run();
-    sky::run();
-    frames::run_lone();
+use std::io;
+
+fn main(rt: HostRuntime) -> io::Result<()> {
+    frames::run(&rt)?;
+    sky::run(&rt)?;
+    frames::run_lone(&rt)
 }

@@ -1,44 +1,39 @@
 // What the program prints: words and numbers, each after a space, on lines that start with the case's letter.
 use attitude_gimbal::Triple;
-use libc::STDOUT_FILENO;
 use refusal::Refusal;
+use std::io;
 use vectors::Vec3;
 
-pub fn text(bytes: &[u8]) {
-    io::write_all(STDOUT_FILENO, bytes);
+pub fn text(rt: &impl Print, text: &str) -> io::Result<()> {
+    rt.print(text)
 }
 
-pub fn end() {
-    text(b"\n");
+pub fn end(rt: &impl Print) -> io::Result<()> {
+    text(rt, "\n")
 }
 
-pub fn number(n: u64) {
-    text(b" ");
-    io::print_decimal(STDOUT_FILENO, n);
+pub fn number(rt: &impl Print, n: u64) -> io::Result<()> {
+    print!(rt; " {n}")
 }
 
-pub fn signed(z: i64) {
-    text(b" ");
-    if z < 0 {
-        text(b"-");
-    }
-    io::print_decimal(STDOUT_FILENO, numbers::abs(z));
+pub fn signed(rt: &impl Print, z: i64) -> io::Result<()> {
+    print!(rt; " {z}")
 }
 
-pub fn vector(v: Vec3) {
-    signed(v.x);
-    signed(v.y);
-    signed(v.z);
+pub fn vector(rt: &impl Print, v: Vec3) -> io::Result<()> {
+    signed(rt, v.x)?;
+    signed(rt, v.y)?;
+    signed(rt, v.z)
 }
 
-pub fn triple(t: Triple) {
-    number(floats::bits_of(t.x));
-    number(floats::bits_of(t.y));
-    number(floats::bits_of(t.z));
+pub fn triple(rt: &impl Print, t: Triple) -> io::Result<()> {
+    number(rt, floats::bits_of(t.x))?;
+    number(rt, floats::bits_of(t.y))?;
+    number(rt, floats::bits_of(t.z))
 }
 
-pub fn refused(refusal: Refusal) {
-    text(b" refused");
-    number(refusal.number as u64);
-    number(refusal.place as u64);
+pub fn refused(rt: &impl Print, refusal: Refusal) -> io::Result<()> {
+    text(rt, " refused")?;
+    number(rt, refusal.number as u64)?;
+    number(rt, refusal.place as u64)
 }

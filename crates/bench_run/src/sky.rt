@@ -4,105 +4,133 @@ use attitude::Attitude;
 use attitude_gimbal::Gimbal;
 use camera_direction::{Direction, camera};
 use refusal::Outcome;
+use std::io;
 use vectors::Vec3;
 
 const UNIT: i64 = 1000000000;
 
-fn direction(letter: &[u8], cx: i64, x: i64) {
-    say::text(letter);
+fn direction(rt: &impl Print, letter: &str, cx: i64, x: i64) -> io::Result<()> {
+    say::text(rt, letter)?;
     let answer = camera::direction_of(cx, 0, camera_lens::of_settings(16384), x, 0);
     match answer {
-        Direction::Refused(refusal) => say::refused(refusal),
-        Direction::Found(v) => say::vector(v),
+        Direction::Refused(refusal) => say::refused(rt, refusal)?,
+        Direction::Found(v) => say::vector(rt, v)?,
     }
-    say::end();
+    say::end(rt)
 }
 
-fn attitude(letter: &[u8], v1: Vec3, v2: Vec3, w1: Vec3, w2: Vec3) {
-    say::text(letter);
+fn attitude(
+    rt: &impl Print,
+    letter: &str,
+    v1: Vec3,
+    v2: Vec3,
+    w1: Vec3,
+    w2: Vec3,
+) -> io::Result<()> {
+    say::text(rt, letter)?;
     let answer = attitude::triad(v1, v2, w1, w2);
     match answer {
-        Attitude::Refused(refusal) => say::refused(refusal),
+        Attitude::Refused(refusal) => say::refused(rt, refusal)?,
         Attitude::Found(matrix) => {
             let row0 = matrix.row0;
             let row1 = matrix.row1;
             let row2 = matrix.row2;
-            say::vector(row0);
-            say::vector(row1);
-            say::vector(row2);
+            say::vector(rt, row0)?;
+            say::vector(rt, row1)?;
+            say::vector(rt, row2)?;
         }
     }
-    say::end();
+    say::end(rt)
 }
 
 // What the gimbal computer is sent: each float by its bits.
-fn rows(gimbal: Gimbal) {
+fn rows(rt: &impl Print, gimbal: Gimbal) -> io::Result<()> {
     match gimbal {
-        Gimbal::Refused(refusal) => say::refused(refusal),
+        Gimbal::Refused(refusal) => say::refused(rt, refusal),
         Gimbal::Rows(cosines) => {
             let row0 = cosines.row0;
             let row1 = cosines.row1;
             let row2 = cosines.row2;
-            say::triple(row0);
-            say::triple(row1);
-            say::triple(row2);
+            say::triple(rt, row0)?;
+            say::triple(rt, row1)?;
+            say::triple(rt, row2)
         }
     }
 }
 
-fn cosines(letter: &[u8], v1: Vec3, v2: Vec3, w1: Vec3, w2: Vec3) {
-    say::text(letter);
-    say::text(b" cosines");
+fn cosines(
+    rt: &impl Print,
+    letter: &str,
+    v1: Vec3,
+    v2: Vec3,
+    w1: Vec3,
+    w2: Vec3,
+) -> io::Result<()> {
+    say::text(rt, letter)?;
+    say::text(rt, " cosines")?;
     let answer = attitude::triad(v1, v2, w1, w2);
     match answer {
-        Attitude::Refused(refusal) => say::refused(refusal),
-        Attitude::Found(matrix) => rows(attitude_gimbal::cosines_of(matrix)),
+        Attitude::Refused(refusal) => say::refused(rt, refusal)?,
+        Attitude::Found(matrix) => rows(rt, attitude_gimbal::cosines_of(matrix))?,
     }
-    say::end();
+    say::end(rt)
 }
 
 // A star's record number, or "-" for none, which is the number of stars.
-fn star(word: u16) {
+fn star(rt: &impl Print, word: u16) -> io::Result<()> {
     if word < 3 {
-        say::number(word as u64);
+        say::number(rt, word as u64)
     } else {
-        say::text(b" -");
+        say::text(rt, " -")
     }
 }
 
 // The stars of the first directions: three, or four where there is a fourth.
-fn stars(words: [u16; 8], directions: usize) {
-    star(words[0]);
-    star(words[1]);
-    star(words[2]);
+fn stars(rt: &impl Print, words: [u16; 8], directions: usize) -> io::Result<()> {
+    star(rt, words[0])?;
+    star(rt, words[1])?;
+    star(rt, words[2])?;
     if 3 < directions {
-        star(words[3]);
+        star(rt, words[3])?;
     }
+    Ok(())
 }
 
 // A catalogue of three stars, a needed count of 3, and a tolerance.
-fn search(letter: &[u8], directions: &[i32], catalogue: &[u8], tolerance: u64, ranking: &[u16]) {
-    say::text(letter);
+fn search(
+    rt: &impl Print,
+    letter: &str,
+    directions: &[i32],
+    catalogue: &[u8],
+    tolerance: u64,
+    ranking: &[u16],
+) -> io::Result<()> {
+    say::text(rt, letter)?;
     let answer = search::search(directions, catalogue, 3, tolerance, ranking);
     let outcome = answer.outcome;
     match outcome {
-        Outcome::Refused(refusal) => say::refused(refusal),
+        Outcome::Refused(refusal) => say::refused(rt, refusal)?,
         Outcome::Accepted => {
             let words = answer.stars;
-            stars(words, directions.len() / 3);
+            stars(rt, words, directions.len() / 3)?;
         }
     }
-    say::end();
+    say::end(rt)
 }
 
 // Whose stars are the three axes, as records 1, 2 and 3; 10^9 is 3b 9a ca 00 in bytes, and the magnitude of each 2,500, 00 00 09 c4.
-fn search_axes(letter: &[u8], directions: &[i32], ranking: &[u16]) {
+fn search_axes(
+    rt: &impl Print,
+    letter: &str,
+    directions: &[i32],
+    ranking: &[u16],
+) -> io::Result<()> {
     let axes =
         b"\0\0\0\x01\x3b\x9a\xca\0\0\0\0\0\0\0\0\0\0\0\x09\xc4\0\0\0\x02\0\0\0\0\x3b\x9a\xca\0\0\0\0\0\0\0\x09\xc4\0\0\0\x03\0\0\0\0\0\0\0\0\x3b\x9a\xca\0\0\0\x09\xc4";
-    search(letter, directions, axes, 0, ranking);
+    search(rt, letter, directions, axes, 0, ranking)
 }
 
-fn vectors() {
+fn vectors(rt: &impl Print) -> io::Result<()> {
     let right = Vec3 {
         x: UNIT,
         y: 0,
@@ -118,21 +146,21 @@ fn vectors() {
         y: 0,
         z: UNIT,
     };
-    direction(b"G", 12288, 12288);
-    direction(b"H", 12288, 0);
-    attitude(b"I", out, right, out, right);
-    cosines(b"I", out, right, out, right);
-    attitude(b"J", out, down, out, right);
-    cosines(b"J", out, down, out, right);
-    attitude(b"K", out, out, out, right);
+    direction(rt, "G", 12288, 12288)?;
+    direction(rt, "H", 12288, 0)?;
+    attitude(rt, "I", out, right, out, right)?;
+    cosines(rt, "I", out, right, out, right)?;
+    attitude(rt, "J", out, down, out, right)?;
+    cosines(rt, "J", out, down, out, right)?;
+    attitude(rt, "K", out, out, out, right)
 }
 
-fn searches() {
+fn searches(rt: &impl Print) -> io::Result<()> {
     let three = [1000000000i32, 0, 0, 0, 1000000000, 0, 0, 0, 1000000000];
-    search_axes(b"L", &three, &[0u16, 1, 2, 0, 1, 2, 0, 1, 2]);
-    search_axes(b"M", &three, &[2u16, 1, 0, 0, 1, 2, 0, 1, 2]);
+    search_axes(rt, "L", &three, &[0u16, 1, 2, 0, 1, 2, 0, 1, 2])?;
+    search_axes(rt, "M", &three, &[2u16, 1, 0, 0, 1, 2, 0, 1, 2])?;
     let two = [1000000000i32, 0, 0, 0, 1000000000, 0];
-    search_axes(b"N", &two, &[0u16, 1, 2, 0, 1, 2]);
+    search_axes(rt, "N", &two, &[0u16, 1, 2, 0, 1, 2])?;
     let four = [
         600000000i32,
         800000000,
@@ -147,11 +175,11 @@ fn searches() {
         0,
         1000000000,
     ];
-    search_axes(b"O", &four, &[0u16, 1, 2, 0, 1, 2, 0, 1, 2, 0, 1, 2]);
+    search_axes(rt, "O", &four, &[0u16, 1, 2, 0, 1, 2, 0, 1, 2, 0, 1, 2])
 }
 
 // The rule over threes. 600,000,000 is 23 c3 46 00, its opposite dc 3c ba 00, 800,000,000 2f af 08 00, and -1,000 ff ff fc 18.
-fn mirrors() {
+fn mirrors(rt: &impl Print) -> io::Result<()> {
     let rising = [0u16, 1, 2, 0, 1, 2, 0, 1, 2];
     let listed = [
         -600000000i32,
@@ -166,7 +194,14 @@ fn mirrors() {
     ];
     let exchanged =
         b"\0\0\0\x0b\x23\xc3\x46\0\0\0\0\0\x2f\xaf\x08\0\0\0\x09\xc4\0\0\0\x16\xdc\x3c\xba\0\0\0\0\0\x2f\xaf\x08\0\0\0\x09\xc4\0\0\0\x21\0\0\0\0\x23\xc3\x46\0\x2f\xaf\x08\0\0\0\x09\xc4";
-    search(b"P", &listed, exchanged, 0, &[0u16, 1, 2, 0, 1, 2, 2, 0, 1]);
+    search(
+        rt,
+        "P",
+        &listed,
+        exchanged,
+        0,
+        &[0u16, 1, 2, 0, 1, 2, 2, 0, 1],
+    )?;
     let small = [
         1000000000i32,
         0,
@@ -180,7 +215,7 @@ fn mirrors() {
     ];
     let small_turn =
         b"\0\0\0\x01\x3b\x9a\xca\0\0\0\0\0\0\0\0\0\0\0\x09\xc4\0\0\0\x02\x23\xc3\x46\0\x2f\xaf\x08\0\0\0\0\0\0\0\x09\xc4\0\0\0\x03\0\0\0\0\x3b\x9a\xca\0\xff\xff\xfc\x18\0\0\x09\xc4";
-    search(b"Q", &small, small_turn, 0, &rising);
+    search(rt, "Q", &small, small_turn, 0, &rising)?;
     let least = [
         1000000000i32,
         0,
@@ -194,7 +229,7 @@ fn mirrors() {
     ];
     let least_turn =
         b"\0\0\0\x01\x3b\x9a\xca\0\0\0\0\0\0\0\0\0\0\0\x09\xc4\0\0\0\x02\0\0\0\0\x3b\x9a\xca\0\0\0\0\0\0\0\x09\xc4\0\0\0\x03\x23\xc3\x46\0\x2f\xaf\x08\0\xff\xff\xfc\x18\0\0\x09\xc4";
-    search(b"R", &least, least_turn, 0, &rising);
+    search(rt, "R", &least, least_turn, 0, &rising)?;
     let less = [
         999999000i32,
         0,
@@ -208,11 +243,11 @@ fn mirrors() {
     ];
     let third_turn =
         b"\0\0\0\x01\x3b\x9a\xca\0\0\0\0\0\0\0\0\0\0\0\x09\xc4\0\0\0\x02\0\0\0\0\x3b\x9a\xca\0\0\0\0\0\0\0\x09\xc4\0\0\0\x03\x3b\x9a\xca\0\0\0\0\0\xff\xff\xfc\x18\0\0\x09\xc4";
-    search(b"S", &less, third_turn, 10000000000000, &rising);
+    search(rt, "S", &less, third_turn, 10000000000000, &rising)
 }
 
-pub fn run() {
-    vectors();
-    searches();
-    mirrors();
+pub fn run(rt: &impl Print) -> io::Result<()> {
+    vectors(rt)?;
+    searches(rt)?;
+    mirrors(rt)
 }

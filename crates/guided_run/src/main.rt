@@ -5,37 +5,41 @@
 use c_interface::{frame, guide};
 use numbers::signed;
 use playback::{print_end, print_numbers, read_wholes, read_words, word};
+use std::fs::File;
+use std::io;
 
 // A line: the frame's number, its refusal or 0, and identity, x, y and misses of the four guides.
-fn print_step(k: u64, list: &[i64], guider: &[i64]) {
-    io::print_decimal(libc::STDOUT_FILENO, k);
-    print_numbers(list, 1);
+fn print_step(rt: &impl Print, k: u64, list: &[i64], guider: &[i64]) -> io::Result<()> {
+    print!(rt; "{k}")?;
+    print_numbers(rt, list, 1)?;
     if 2 <= guider.len() {
         let end = guider.len();
-        print_numbers(&guider[2..end], 16);
+        print_numbers(rt, &guider[2..end], 16)?;
     }
-    print_end();
+    print_end(rt)
 }
 
 // One frame: its list, and the guider after it.
 fn step(
+    rt: &impl Print,
     k: u64,
     samples: &[u16],
     width: usize,
     height: usize,
     threshold: usize,
     guider: &mut [i64],
-) {
+) -> io::Result<()> {
     let mut list = [0i64; 64];
     frame::mnemathor_list(samples, width, height, threshold, &mut list);
     let mut out = [0i64; 64];
     guide::mnemathor_guider_frame(guider, &list, &mut out);
-    print_step(k, &list, guider);
+    print_step(rt, k, &list, guider)
 }
 
 // The frames one after the other.
 fn follow(
-    fd: i32,
+    rt: &impl Print,
+    file: &mut File,
     width: usize,
     height: usize,
     threshold: usize,
@@ -43,30 +47,30 @@ fn follow(
     bytes: &mut [u8],
     samples: &mut [u16],
     guider: &mut [i64],
-) {
-    let mut k: u64 = 0;
-    while k < frames {
-        let n = read_words(fd, bytes, samples);
-        step(k, &samples[0..n], width, height, threshold, guider);
-        k += 1;
+) -> io::Result<()> {
+    for k in 0..frames {
+        let n = read_words(file, bytes, samples);
+        step(rt, k, &samples[0..n], width, height, threshold, guider)?;
     }
+    Ok(())
 }
 
-fn run(fd: i32) {
-    let width = word(fd) as usize;
-    let height = word(fd) as usize;
-    let threshold = word(fd) as usize;
-    let half = signed(word(fd));
-    let frames = word(fd);
+fn run(rt: &impl Print, file: &mut File) -> io::Result<()> {
+    let width = word(file) as usize;
+    let height = word(file) as usize;
+    let threshold = word(file) as usize;
+    let half = signed(word(file));
+    let frames = word(file);
     let mut bytes = [0u8; 16384];
     let mut samples = [0u16; 8192];
     let mut stars = [0i64; 12];
-    let s = read_wholes(fd, &mut bytes, &mut stars);
+    let s = read_wholes(file, &mut bytes, &mut stars);
     let mut guider = [0i64; 18];
     let mut out = [0i64; 64];
     guide::mnemathor_guider_start(half, &stars[0..s], &mut guider, &mut out);
     follow(
-        fd,
+        rt,
+        file,
         width,
         height,
         threshold,
@@ -74,15 +78,10 @@ fn run(fd: i32) {
         &mut bytes,
         &mut samples,
         &mut guider,
-    );
+    )
 }
 
-fn main() {
-    let fd = os::open_read(b"run.bin");
-    if fd < 0 {
-        os::fail(b"run.bin");
-        return;
-    }
-    run(fd);
-    libc::close(fd);
+fn main(rt: HostRuntime) -> io::Result<()> {
+    let mut file = File::open(&rt, "run.bin")?;
+    run(&rt, &mut file)
 }

@@ -5,14 +5,21 @@ use playback::{
     bytes_checksum, checksum, expand, float, half, print_call, print_end, print_more,
     read_directions, read_wholes, read_words, signed_half, word,
 };
+use std::fs::File;
+use std::io;
 
-pub fn verdict(fd: i32, bytes: &mut [u8], samples: &mut [u16]) {
-    let width = word(fd) as usize;
-    let height = word(fd) as usize;
-    let threshold = word(fd) as usize;
-    let row = word(fd) as usize;
-    let column = word(fd) as usize;
-    let n = read_words(fd, bytes, samples);
+pub fn verdict(
+    rt: &impl Print,
+    file: &mut File,
+    bytes: &mut [u8],
+    samples: &mut [u16],
+) -> io::Result<()> {
+    let width = word(file) as usize;
+    let height = word(file) as usize;
+    let threshold = word(file) as usize;
+    let row = word(file) as usize;
+    let column = word(file) as usize;
+    let n = read_words(file, bytes, samples);
     let mut out = [0i64; 64];
     frame::mnemathor_verdict(
         &samples[0..n],
@@ -23,17 +30,22 @@ pub fn verdict(fd: i32, bytes: &mut [u8], samples: &mut [u16]) {
         column,
         &mut out,
     );
-    print_call(1, &out, 8);
-    print_end();
+    print_call(rt, 1, &out, 8)?;
+    print_end(rt)
 }
 
-pub fn reason(fd: i32, bytes: &mut [u8], samples: &mut [u16]) {
-    let width = word(fd) as usize;
-    let height = word(fd) as usize;
-    let threshold = word(fd) as usize;
-    let row = word(fd) as usize;
-    let column = word(fd) as usize;
-    let n = read_words(fd, bytes, samples);
+pub fn reason(
+    rt: &impl Print,
+    file: &mut File,
+    bytes: &mut [u8],
+    samples: &mut [u16],
+) -> io::Result<()> {
+    let width = word(file) as usize;
+    let height = word(file) as usize;
+    let threshold = word(file) as usize;
+    let row = word(file) as usize;
+    let column = word(file) as usize;
+    let n = read_words(file, bytes, samples);
     let mut out = [0i64; 64];
     frame::mnemathor_reason(
         &samples[0..n],
@@ -44,50 +56,61 @@ pub fn reason(fd: i32, bytes: &mut [u8], samples: &mut [u16]) {
         column,
         &mut out,
     );
-    print_call(9, &out, 6);
-    print_end();
+    print_call(rt, 9, &out, 6)?;
+    print_end(rt)
 }
 
-pub fn list(fd: i32, bytes: &mut [u8], samples: &mut [u16]) {
-    let width = word(fd) as usize;
-    let height = word(fd) as usize;
-    let threshold = word(fd) as usize;
-    let n = read_words(fd, bytes, samples);
+pub fn list(
+    rt: &impl Print,
+    file: &mut File,
+    bytes: &mut [u8],
+    samples: &mut [u16],
+) -> io::Result<()> {
+    let width = word(file) as usize;
+    let height = word(file) as usize;
+    let threshold = word(file) as usize;
+    let n = read_words(file, bytes, samples);
     let mut out = [0i64; 64];
     frame::mnemathor_list(&samples[0..n], width, height, threshold, &mut out);
-    print_call(2, &out, 30);
-    print_end();
+    print_call(rt, 2, &out, 30)?;
+    print_end(rt)
 }
 
-pub fn direction(fd: i32) {
-    let cx = signed(word(fd));
-    let cy = signed(word(fd));
-    let kind = half(fd);
-    let first = float(fd);
-    let second = float(fd);
-    let x = signed(word(fd));
-    let y = signed(word(fd));
+pub fn direction(rt: &impl Print, file: &mut File) -> io::Result<()> {
+    let cx = signed(word(file));
+    let cy = signed(word(file));
+    let kind = half(file);
+    let first = float(file);
+    let second = float(file);
+    let x = signed(word(file));
+    let y = signed(word(file));
     let mut out = [0i64; 64];
     camera::mnemathor_direction(cx, cy, kind, first, second, x, y, &mut out);
-    print_call(3, &out, 5);
-    print_end();
+    print_call(rt, 3, &out, 5)?;
+    print_end(rt)
 }
 
-pub fn catalogue(fd: i32, stars: &mut [u8]) {
-    let n = expand(fd, 1, stars);
+pub fn catalogue(rt: &impl Print, file: &mut File, stars: &mut [u8]) -> io::Result<()> {
+    let n = expand(file, 1, stars);
     let mut out = [0i64; 64];
     identify::mnemathor_catalogue(&stars[0..n], &mut out);
-    print_call(4, &out, 3);
-    print_end();
+    print_call(rt, 4, &out, 3)?;
+    print_end(rt)
 }
 
 // The room's sum is printed as it is before the call and after it.
-pub fn ranking(fd: i32, bytes: &mut [u8], stars: &mut [u8], room: &mut [u16]) {
-    let tolerance = word(fd);
+pub fn ranking(
+    rt: &impl Print,
+    file: &mut File,
+    bytes: &mut [u8],
+    stars: &mut [u8],
+    room: &mut [u16],
+) -> io::Result<()> {
+    let tolerance = word(file);
     let mut directions = [0i32; 40];
-    let d = read_directions(fd, bytes, &mut directions);
-    let s = expand(fd, 1, stars);
-    let w = read_words(fd, bytes, room);
+    let d = read_directions(file, bytes, &mut directions);
+    let s = expand(file, 1, stars);
+    let w = read_words(file, bytes, room);
     let before = checksum(&room[0..w]);
     let mut out = [0i64; 64];
     identify::mnemathor_ranking(
@@ -97,19 +120,25 @@ pub fn ranking(fd: i32, bytes: &mut [u8], stars: &mut [u8], room: &mut [u16]) {
         &mut room[0..w],
         &mut out,
     );
-    print_call(5, &out, 2);
-    print_more(before);
-    print_more(checksum(&room[0..w]));
-    print_end();
+    print_call(rt, 5, &out, 2)?;
+    print_more(rt, before)?;
+    print_more(rt, checksum(&room[0..w]))?;
+    print_end(rt)
 }
 
-pub fn search(fd: i32, bytes: &mut [u8], stars: &mut [u8], room: &mut [u16]) {
-    let needed = word(fd) as usize;
-    let tolerance = word(fd);
+pub fn search(
+    rt: &impl Print,
+    file: &mut File,
+    bytes: &mut [u8],
+    stars: &mut [u8],
+    room: &mut [u16],
+) -> io::Result<()> {
+    let needed = word(file) as usize;
+    let tolerance = word(file);
     let mut directions = [0i32; 40];
-    let d = read_directions(fd, bytes, &mut directions);
-    let s = expand(fd, 1, stars);
-    let w = read_words(fd, bytes, room);
+    let d = read_directions(file, bytes, &mut directions);
+    let s = expand(file, 1, stars);
+    let w = read_words(file, bytes, room);
     let mut out = [0i64; 64];
     identify::mnemathor_search(
         &directions[0..d],
@@ -119,17 +148,23 @@ pub fn search(fd: i32, bytes: &mut [u8], stars: &mut [u8], room: &mut [u16]) {
         &room[0..w],
         &mut out,
     );
-    print_call(6, &out, 11);
-    print_end();
+    print_call(rt, 6, &out, 11)?;
+    print_end(rt)
 }
 
-pub fn rival(fd: i32, bytes: &mut [u8], stars: &mut [u8], room: &mut [u16]) {
-    let needed = word(fd) as usize;
-    let tolerance = word(fd);
+pub fn rival(
+    rt: &impl Print,
+    file: &mut File,
+    bytes: &mut [u8],
+    stars: &mut [u8],
+    room: &mut [u16],
+) -> io::Result<()> {
+    let needed = word(file) as usize;
+    let tolerance = word(file);
     let mut directions = [0i32; 40];
-    let d = read_directions(fd, bytes, &mut directions);
-    let s = expand(fd, 1, stars);
-    let w = read_words(fd, bytes, room);
+    let d = read_directions(file, bytes, &mut directions);
+    let s = expand(file, 1, stars);
+    let w = read_words(file, bytes, room);
     let mut out = [0i64; 64];
     c_interface::rival::mnemathor_rival(
         &directions[0..d],
@@ -139,20 +174,21 @@ pub fn rival(fd: i32, bytes: &mut [u8], stars: &mut [u8], room: &mut [u16]) {
         &room[0..w],
         &mut out,
     );
-    print_call(18, &out, 11);
-    print_end();
+    print_call(rt, 18, &out, 11)?;
+    print_end(rt)
 }
 
-pub fn attitude(fd: i32, bytes: &mut [u8]) {
+pub fn attitude(rt: &impl Print, file: &mut File, bytes: &mut [u8]) -> io::Result<()> {
     let mut vectors = [0i64; 12];
-    let n = read_wholes(fd, bytes, &mut vectors);
+    let n = read_wholes(file, bytes, &mut vectors);
     let mut out = [0i64; 64];
     identify::mnemathor_attitude(&vectors[0..n], &mut out);
-    print_call(7, &out, 11);
-    print_end();
+    print_call(rt, 7, &out, 11)?;
+    print_end(rt)
 }
 
 fn print_chain(
+    rt: &impl Print,
     samples: &[u16],
     width: usize,
     height: usize,
@@ -166,34 +202,42 @@ fn print_chain(
     needed: usize,
     tolerance: u64,
     room: &mut [u16],
-) {
+) -> io::Result<()> {
     let before = checksum(room);
     let mut out = [0i64; 64];
     track::mnemathor_chain(
         samples, width, height, threshold, cx, cy, kind, first, second, stars, needed, tolerance,
         room, &mut out,
     );
-    print_call(8, &out, 47);
-    print_more(before);
-    print_more(checksum(room));
-    print_end();
+    print_call(rt, 8, &out, 47)?;
+    print_more(rt, before)?;
+    print_more(rt, checksum(room))?;
+    print_end(rt)
 }
 
-pub fn chain(fd: i32, bytes: &mut [u8], samples: &mut [u16], stars: &mut [u8], room: &mut [u16]) {
-    let width = word(fd) as usize;
-    let height = word(fd) as usize;
-    let threshold = word(fd) as usize;
-    let cx = signed(word(fd));
-    let cy = signed(word(fd));
-    let kind = half(fd);
-    let first = float(fd);
-    let second = float(fd);
-    let needed = word(fd) as usize;
-    let tolerance = word(fd);
-    let n = read_words(fd, bytes, samples);
-    let s = expand(fd, 1, stars);
-    let w = read_words(fd, bytes, room);
+pub fn chain(
+    rt: &impl Print,
+    file: &mut File,
+    bytes: &mut [u8],
+    samples: &mut [u16],
+    stars: &mut [u8],
+    room: &mut [u16],
+) -> io::Result<()> {
+    let width = word(file) as usize;
+    let height = word(file) as usize;
+    let threshold = word(file) as usize;
+    let cx = signed(word(file));
+    let cy = signed(word(file));
+    let kind = half(file);
+    let first = float(file);
+    let second = float(file);
+    let needed = word(file) as usize;
+    let tolerance = word(file);
+    let n = read_words(file, bytes, samples);
+    let s = expand(file, 1, stars);
+    let w = read_words(file, bytes, room);
     print_chain(
+        rt,
         &samples[0..n],
         width,
         height,
@@ -207,92 +251,107 @@ pub fn chain(fd: i32, bytes: &mut [u8], samples: &mut [u16], stars: &mut [u8], r
         needed,
         tolerance,
         &mut room[0..w],
-    );
+    )
 }
 
-pub fn index(fd: i32, stars: &mut [u8], room: &mut [u8]) {
-    let floor = signed(word(fd));
-    let s = expand(fd, 1, stars);
-    let w = expand(fd, 1, room);
+pub fn index(
+    rt: &impl Print,
+    file: &mut File,
+    stars: &mut [u8],
+    room: &mut [u8],
+) -> io::Result<()> {
+    let floor = signed(word(file));
+    let s = expand(file, 1, stars);
+    let w = expand(file, 1, room);
     let before = bytes_checksum(&room[0..w]);
     let mut out = [0i64; 64];
     by_index::mnemathor_index(&stars[0..s], floor, &mut room[0..w], &mut out);
-    print_call(10, &out, 3);
-    print_more(before);
-    print_more(bytes_checksum(&room[0..w]));
-    print_end();
+    print_call(rt, 10, &out, 3)?;
+    print_more(rt, before)?;
+    print_more(rt, bytes_checksum(&room[0..w]))?;
+    print_end(rt)
 }
 
-pub fn compare(fd: i32, bytes: &mut [u8], stars: &mut [u8], room: &mut [u8]) {
-    let s = expand(fd, 1, stars);
-    let t = expand(fd, 1, bytes);
-    let w = expand(fd, 1, room);
+pub fn compare(
+    rt: &impl Print,
+    file: &mut File,
+    bytes: &mut [u8],
+    stars: &mut [u8],
+    room: &mut [u8],
+) -> io::Result<()> {
+    let s = expand(file, 1, stars);
+    let t = expand(file, 1, bytes);
+    let w = expand(file, 1, room);
     let before = bytes_checksum(&room[0..w]);
     let mut out = [0i64; 64];
     c_interface::compare::mnemathor_compare(&stars[0..s], &bytes[0..t], &mut room[0..w], &mut out);
-    print_call(17, &out, 3);
-    print_more(before);
-    print_more(bytes_checksum(&room[0..w]));
-    print_end();
+    print_call(rt, 17, &out, 3)?;
+    print_more(rt, before)?;
+    print_more(rt, bytes_checksum(&room[0..w]))?;
+    print_end(rt)
 }
 
-pub fn cut(fd: i32, stars: &mut [u8]) {
-    let limit = signed_half(word(fd));
-    let closeness = signed(word(fd));
-    let s = expand(fd, 1, stars);
+pub fn cut(rt: &impl Print, file: &mut File, stars: &mut [u8]) -> io::Result<()> {
+    let limit = signed_half(word(file));
+    let closeness = signed(word(file));
+    let s = expand(file, 1, stars);
     let before = bytes_checksum(&stars[0..s]);
     let mut out = [0i64; 64];
     c_interface::cut::mnemathor_cut(&mut stars[0..s], limit, closeness, &mut out);
-    print_call(19, &out, 3);
-    print_more(before);
-    print_more(bytes_checksum(&stars[0..s]));
-    print_end();
+    print_call(rt, 19, &out, 3)?;
+    print_more(rt, before)?;
+    print_more(rt, bytes_checksum(&stars[0..s]))?;
+    print_end(rt)
 }
 
 fn print_ranking_by_index(
+    rt: &impl Print,
     directions: &[i32],
     stars: &[u8],
     index: &[u8],
     floor: i64,
     tolerance: u64,
     room: &mut [u16],
-) {
+) -> io::Result<()> {
     let before = checksum(room);
     let mut out = [0i64; 64];
     by_index::mnemathor_ranking_by_index(
         directions, stars, index, floor, tolerance, room, &mut out,
     );
-    print_call(11, &out, 2);
-    print_more(before);
-    print_more(checksum(room));
-    print_end();
+    print_call(rt, 11, &out, 2)?;
+    print_more(rt, before)?;
+    print_more(rt, checksum(room))?;
+    print_end(rt)
 }
 
 pub fn ranking_by_index(
-    fd: i32,
+    rt: &impl Print,
+    file: &mut File,
     bytes: &mut [u8],
     stars: &mut [u8],
     index: &mut [u8],
     room: &mut [u16],
-) {
-    let floor = signed(word(fd));
-    let tolerance = word(fd);
+) -> io::Result<()> {
+    let floor = signed(word(file));
+    let tolerance = word(file);
     let mut directions = [0i32; 40];
-    let d = read_directions(fd, bytes, &mut directions);
-    let s = expand(fd, 1, stars);
-    let x = expand(fd, 1, index);
-    let w = read_words(fd, bytes, room);
+    let d = read_directions(file, bytes, &mut directions);
+    let s = expand(file, 1, stars);
+    let x = expand(file, 1, index);
+    let w = read_words(file, bytes, room);
     print_ranking_by_index(
+        rt,
         &directions[0..d],
         &stars[0..s],
         &index[0..x],
         floor,
         tolerance,
         &mut room[0..w],
-    );
+    )
 }
 
 fn print_chain_by_index(
+    rt: &impl Print,
     samples: &[u16],
     width: usize,
     height: usize,
@@ -308,43 +367,45 @@ fn print_chain_by_index(
     needed: usize,
     tolerance: u64,
     room: &mut [u16],
-) {
+) -> io::Result<()> {
     let before = checksum(room);
     let mut out = [0i64; 64];
     by_index::mnemathor_chain_by_index(
         samples, width, height, threshold, cx, cy, kind, first, second, stars, index, floor,
         needed, tolerance, room, &mut out,
     );
-    print_call(12, &out, 47);
-    print_more(before);
-    print_more(checksum(room));
-    print_end();
+    print_call(rt, 12, &out, 47)?;
+    print_more(rt, before)?;
+    print_more(rt, checksum(room))?;
+    print_end(rt)
 }
 
 pub fn chain_by_index(
-    fd: i32,
+    rt: &impl Print,
+    file: &mut File,
     bytes: &mut [u8],
     samples: &mut [u16],
     stars: &mut [u8],
     index: &mut [u8],
     room: &mut [u16],
-) {
-    let width = word(fd) as usize;
-    let height = word(fd) as usize;
-    let threshold = word(fd) as usize;
-    let cx = signed(word(fd));
-    let cy = signed(word(fd));
-    let kind = half(fd);
-    let first = float(fd);
-    let second = float(fd);
-    let floor = signed(word(fd));
-    let needed = word(fd) as usize;
-    let tolerance = word(fd);
-    let n = read_words(fd, bytes, samples);
-    let s = expand(fd, 1, stars);
-    let x = expand(fd, 1, index);
-    let w = read_words(fd, bytes, room);
+) -> io::Result<()> {
+    let width = word(file) as usize;
+    let height = word(file) as usize;
+    let threshold = word(file) as usize;
+    let cx = signed(word(file));
+    let cy = signed(word(file));
+    let kind = half(file);
+    let first = float(file);
+    let second = float(file);
+    let floor = signed(word(file));
+    let needed = word(file) as usize;
+    let tolerance = word(file);
+    let n = read_words(file, bytes, samples);
+    let s = expand(file, 1, stars);
+    let x = expand(file, 1, index);
+    let w = read_words(file, bytes, room);
     print_chain_by_index(
+        rt,
         &samples[0..n],
         width,
         height,
@@ -360,10 +421,11 @@ pub fn chain_by_index(
         needed,
         tolerance,
         &mut room[0..w],
-    );
+    )
 }
 
 fn print_burst(
+    rt: &impl Print,
     samples: &[u16],
     width: usize,
     height: usize,
@@ -378,7 +440,7 @@ fn print_burst(
     tolerance: u64,
     room: &mut [u16],
     records: &mut [u8],
-) {
+) -> io::Result<()> {
     let before = checksum(room);
     let records_before = bytes_checksum(records);
     let mut out = [0i64; 64];
@@ -386,37 +448,39 @@ fn print_burst(
         samples, width, height, threshold, cx, cy, kind, first, second, stars, needed, tolerance,
         room, records, &mut out,
     );
-    print_call(13, &out, 3);
-    print_more(before);
-    print_more(checksum(room));
-    print_more(records_before);
-    print_more(bytes_checksum(records));
-    print_end();
+    print_call(rt, 13, &out, 3)?;
+    print_more(rt, before)?;
+    print_more(rt, checksum(room))?;
+    print_more(rt, records_before)?;
+    print_more(rt, bytes_checksum(records))?;
+    print_end(rt)
 }
 
 pub fn burst(
-    fd: i32,
+    rt: &impl Print,
+    file: &mut File,
     bytes: &mut [u8],
     samples: &mut [u16],
     stars: &mut [u8],
     room: &mut [u16],
     records: &mut [u8],
-) {
-    let width = word(fd) as usize;
-    let height = word(fd) as usize;
-    let threshold = word(fd) as usize;
-    let cx = signed(word(fd));
-    let cy = signed(word(fd));
-    let kind = half(fd);
-    let first = float(fd);
-    let second = float(fd);
-    let needed = word(fd) as usize;
-    let tolerance = word(fd);
-    let n = read_words(fd, bytes, samples);
-    let s = expand(fd, 1, stars);
-    let w = read_words(fd, bytes, room);
-    let r = expand(fd, 1, records);
+) -> io::Result<()> {
+    let width = word(file) as usize;
+    let height = word(file) as usize;
+    let threshold = word(file) as usize;
+    let cx = signed(word(file));
+    let cy = signed(word(file));
+    let kind = half(file);
+    let first = float(file);
+    let second = float(file);
+    let needed = word(file) as usize;
+    let tolerance = word(file);
+    let n = read_words(file, bytes, samples);
+    let s = expand(file, 1, stars);
+    let w = read_words(file, bytes, room);
+    let r = expand(file, 1, records);
     print_burst(
+        rt,
         &samples[0..n],
         width,
         height,
@@ -431,15 +495,15 @@ pub fn burst(
         tolerance,
         &mut room[0..w],
         &mut records[0..r],
-    );
+    )
 }
 
-pub fn lens(fd: i32) {
-    let kind = half(fd);
-    let first = float(fd);
-    let second = float(fd);
+pub fn lens(rt: &impl Print, file: &mut File) -> io::Result<()> {
+    let kind = half(file);
+    let first = float(file);
+    let second = float(file);
     let mut out = [0i64; 64];
     camera::mnemathor_lens(kind, first, second, &mut out);
-    print_call(16, &out, 3);
-    print_end();
+    print_call(rt, 16, &out, 3)?;
+    print_end(rt)
 }
