@@ -28,8 +28,8 @@ returns c = c.of_refusal.ensures ∙ ap focal_numbers (sym c.before.in-Refused.i
 returns-2 : tie.Need-returns-in-Whole
 returns-2 c =
     let g = c.before.in-Whole in
-    let f = back (held {w = w64} g.f.0 c.before.in-Whole.field-1) in
-    c.of_whole.ensures ∙ ap (λ (z : ℤ). accepted_numbers (z ∷ [])) f ∙ ap focal_numbers (sym g.1)
+    let f = back (held {w = w64} g.f g.known_told-in-Whole-1-own.given.0.1) in
+    c.of_whole.ensures ∙ ap (λ (z : ℤ). accepted_numbers (z ∷ [])) f ∙ ap focal_numbers (sym g.is)
 
 pub of_focal_spec : {M : Type 1} → statement M
 of_focal_spec =

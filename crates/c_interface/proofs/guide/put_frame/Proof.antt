@@ -51,10 +51,10 @@ returns-2 c =
 sub-frame-in : tie.Need-slice_bounds-frame_in-count
 sub-frame-in c = search rules
 
-part-frame-in-start : tie.Need-slice-bounds-frame-in-start
+part-frame-in-start : tie.Need-slice_bounds-frame_in-start
 part-frame-in-start c = search rules
 
-part-frame-in-end : tie.Need-slice-bounds-frame-in-end
+part-frame-in-end : tie.Need-slice_bounds-frame_in-end
 part-frame-in-end c = search rules
 
 frame-in-requires : tie.Need-frame_in-framed-requires
@@ -78,10 +78,8 @@ same_length c = search rules
 returns-3 : tie.Need-returns
 returns-3 c =
     let put = c.before in
-    let frame = put.before.before in
-    let left = frame.before.before.before in
-    let a = left.before.args in
-    is-taken a.guider.now a.list.now (rw (eq-eqb _ _ left.if-guider-ne-NUMBERS.false, eq-eqb _ _ left.if-guider-ne-NUMBERS.false)) (framed frame) put.put_framed.ensures
+    let a = c.args in
+    is-taken a.guider.now a.list.now (rw (eq-eqb _ _ c.if-guider-ne-NUMBERS.false, eq-eqb _ _ c.if-list-ne64.false)) (framed put.before.before) put.put_framed.ensures
 
 pub put_frame_spec : {M : Type 1} → statement M
 put_frame_spec =
