@@ -28,7 +28,7 @@ returns c = told _ (ap (λ (x : Signed). narrowed x) (sym c.in-NoNumber.is ∙ c
 returns-2 : tie.Need-returns-in-Number
 returns-2 c =
     let z = c.in-Number.z in
-    let f : SFits w64 z = record { sfits = c.in-Number.known_told-1-own.given.0.1 } in
+    let f : SFits w64 z = search rules in
     told _ (c.narrow.ensures ∙ ap limit_for (to_z-of_z w64 z f) ∙ ap (λ (x : Signed). narrowed x) (sym c.in-Number.is
     ∙ c.parse_signed-number.ensures.0))
 
