@@ -1,7 +1,8 @@
 -- The identities of a side's axes and of the matrix that its accuracy rests on: each says that a power of 10^9 times what is to be small is a sum of terms
 -- that are. n stands for 10^9. All are by the solver. Assumes nothing.
 use Rattle.std.specs.Prelude.{◌≡◌, [], ◌∷◌, ℤ, pos, ◌+ℤ◌, ◌-ℤ◌, ◌*ℤ◌}
-use Rattle.numbers.specs.Solver.{var, ◌⊕◌, ◌⊖◌, ◌⊗◌, ring}
+use Rattle.numbers.specs.Solver.{var, ◌⊕◌, ◌⊖◌, ◌⊗◌}
+use Rattle.numbers.proofs.Solver.{ring}
 use Rattle.vectors.specs.declared.Vec3.{Vec3}
 use Rattle.vectors.specs.Vectors.{dot_of, cross_of}
 use Rattle.vectors.specs.Symbols.{vec, ◌▹◌, ◌⊙◌, cross, more_of, more, sum_of, sum, mix_of, mix, det_of, det}

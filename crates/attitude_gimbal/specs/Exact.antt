@@ -3,7 +3,8 @@ use Rattle.std.specs.Prelude.{false, ◌≡◌, refl, ◌^◌, ◌≤◌, T, ℤ
 use Rattle.std.proofs.Common.{le_trans, lit≤, lit<}
 use Rattle.std.specs.Float.{fin, binary64}
 use Rattle.std.specs.Float.Ieee.{of_int, in_float, to_signed, round, div}
-use Rattle.floats.specs.Whole.{negative, whole_float, whole_back, whole-quotient}
+use Rattle.floats.specs.Whole.{negative, whole_float, whole_back}
+use Rattle.floats.proofs.Whole.{whole-quotient}
 use Rattle.numbers.specs.Within.{Within}
 use Rattle.attitude_gimbal.specs.Cosines.{cosine_of}
 

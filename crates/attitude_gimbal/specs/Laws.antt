@@ -9,8 +9,10 @@ use Rattle.refusal.specs.declared.Refusal.{Refusal}
 use Rattle.refusal.specs.declared.Outcome.{Outcome}
 use Rattle.refusal.specs.declared.Outcome.TheVariants.{Accepted, Refused as Stopped}
 use Rattle.refusal.specs.Table.{row, first_applying, answered}
-use Rattle.refusal.specs.Laws.{Silent, accepted-silent}
-use Rattle.refusal.specs.AnswerLaws.{answer_by, answered-by}
+use Rattle.refusal.specs.Laws.{Silent}
+use Rattle.refusal.proofs.Laws.{accepted-silent}
+use Rattle.refusal.specs.AnswerLaws.{answer_by}
+use Rattle.refusal.proofs.AnswerLaws.{answered-by}
 use Rattle.vectors.specs.declared.Vec3.{Vec3}
 use Rattle.vectors.specs.Laws.{wider3}
 use Rattle.attitude.specs.declared.Matrix.{Matrix}

@@ -9,8 +9,10 @@ use Rattle.refusal.specs.declared.Refusal.{Refusal}
 use Rattle.refusal.specs.declared.Outcome.{Outcome}
 use Rattle.refusal.specs.Numbers.{settings}
 use Rattle.refusal.specs.Table.{first_applying, answered}
-use Rattle.refusal.specs.Laws.{applying-here, silent-accepted, Silent}
-use Rattle.refusal.specs.AnswerLaws.{answer_by, answered-by}
+use Rattle.refusal.specs.Laws.{Silent}
+use Rattle.refusal.proofs.Laws.{applying-here, silent-accepted}
+use Rattle.refusal.specs.AnswerLaws.{answer_by}
+use Rattle.refusal.proofs.AnswerLaws.{answered-by}
 use Rattle.vectors.specs.declared.Vec3.{Vec3}
 use Rattle.vectors.specs.Vectors.{Within3}
 use Rattle.camera_direction.specs.declared.Direction.TheVariants.{Refused, Found}

@@ -7,7 +7,8 @@ use Rattle.std.proofs.Math.IntN.{nat_abs, +ℤ_invr}
 use Rattle.numbers.specs.Abs.{abs-add}
 use Rattle.numbers.specs.Within.{Within, wider, within-add, within-sub, within-mul}
 use Rattle.numbers.specs.Root.{root, root_is, square-next}
-use Rattle.numbers.specs.Solver.{var, num, ◌⊕◌, ◌⊖◌, ◌⊗◌, ring}
+use Rattle.numbers.specs.Solver.{var, num, ◌⊕◌, ◌⊖◌, ◌⊗◌}
+use Rattle.numbers.proofs.Solver.{ring}
 use Rattle.numbers.specs.Split.{Split, split, within-as, within_none, within-pos, cut}
 use Rattle.numbers.specs.Squares.{apart-within}
 use Rattle.vectors.specs.Vectors.{Within3}

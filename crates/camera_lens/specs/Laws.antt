@@ -9,8 +9,10 @@ use Rattle.refusal.specs.declared.Refusal.{Refusal}
 use Rattle.refusal.specs.declared.Outcome.{Outcome}
 use Rattle.refusal.specs.Numbers.{lens}
 use Rattle.refusal.specs.Table.{first_applying, answered}
-use Rattle.refusal.specs.Laws.{applying-here, Silent, silent-accepted}
-use Rattle.refusal.specs.AnswerLaws.{answer_by, answered-by}
+use Rattle.refusal.specs.Laws.{Silent}
+use Rattle.refusal.proofs.Laws.{applying-here, silent-accepted}
+use Rattle.refusal.specs.AnswerLaws.{answer_by}
+use Rattle.refusal.proofs.AnswerLaws.{answered-by}
 use Rattle.camera_lens.specs.declared.Lens.{Lens}
 use Rattle.camera_lens.specs.declared.Lens.TheVariants.{Pixels}
 use Rattle.camera_lens.specs.declared.Focal.TheVariants.{Refused, Whole}

@@ -8,7 +8,7 @@ use Rattle.std.proofs.Math.Nat.{mul-div_cancel}
 use Rattle.std.specs.Float.{fin, binary64}
 use Rattle.std.specs.Float.Ieee.{of_int, round, div}
 use Rattle.std.specs.Float.Ieee.Exact.{HasValue, round_exact}
-use Rattle.floats.specs.Whole.{whole-quotient}
+use Rattle.floats.proofs.Whole.{whole-quotient}
 use Rattle.camera_lens.specs.declared.Lens.TheVariants.{Millimetres, Pixels}
 use Rattle.camera_lens.specs.declared.Focal.TheVariants.{Whole}
 use Rattle.camera_lens.specs.Lens.{lens_ok, focal_number, focal_of, out_of_range}

@@ -15,7 +15,8 @@ use Rattle.refusal.specs.CountedLaws.{count-accepted, count-refused}
 use Rattle.refusal.specs.declared.Counted.TheVariants.{Refused, Count}
 use Rattle.catalogue.specs.Format.{records_in, identity_of}
 use Rattle.catalogue.specs.Rule.{record_ok}
-use Rattle.lists.specs.First.{First, first-is, first_of}
+use Rattle.lists.specs.First.{First}
+use Rattle.lists.proofs.First.{first-is, first_of}
 use Rattle.catalogue.specs.Check.{length_ok, broken_of, refusals_of, checked_of}
 use Rattle.catalogue.specs.CheckSteps.{checked, wrong-length, one-broken, none-broken}
 use Rattle.catalogue.specs.Valid.{LengthRule, RecordRule, Valid, FirstBroken}

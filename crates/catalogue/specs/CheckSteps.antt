@@ -7,10 +7,11 @@ use Rattle.refusal.specs.declared.Outcome.{Outcome}
 use Rattle.refusal.specs.declared.Outcome.TheVariants.{Accepted}
 use Rattle.refusal.specs.Numbers.{catalogue, record_rule}
 use Rattle.refusal.specs.Table.{refusal_of, row_at, first_applying}
-use Rattle.refusal.specs.Laws.{applying-here, applying-next, silent-accepted, Silent}
+use Rattle.refusal.specs.Laws.{Silent}
+use Rattle.refusal.proofs.Laws.{applying-here, applying-next, silent-accepted}
 use Rattle.refusal.specs.AnswerLaws.{answer_by}
 use Rattle.refusal.specs.Counted.{counted_of, count_answer}
-use Rattle.refusal.specs.CountedLaws.{count_by}
+use Rattle.refusal.proofs.CountedLaws.{count_by}
 use Rattle.catalogue.specs.Format.{records_in}
 use Rattle.catalogue.specs.Check.{length_ok, broken_of, record_broken, refusals_of, checked_of, answer_for}
 

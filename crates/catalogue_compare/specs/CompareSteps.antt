@@ -8,10 +8,12 @@ use Rattle.refusal.specs.declared.Outcome.TheVariants.{Accepted}
 use Rattle.refusal.specs.declared.Refusal.{Refusal}
 use Rattle.refusal.specs.Numbers as number
 use Rattle.refusal.specs.Table.{refusal_of, row, first_applying, answered, otherwise}
-use Rattle.refusal.specs.Laws.{applying-append, applying-behind, applying-here, silent-accepted, Silent, otherwise-accepted, last-accepted}
+use Rattle.refusal.specs.Laws.{Silent, otherwise-accepted}
+use Rattle.refusal.proofs.Laws.{applying-append, applying-behind, applying-here, silent-accepted, last-accepted}
 use Rattle.refusal.specs.AnswerLaws.{answer_by}
 use Rattle.refusal.specs.Counted.{counted_of, count_answer}
-use Rattle.refusal.specs.CountedLaws.{count_by, count-accepted}
+use Rattle.refusal.specs.CountedLaws.{count-accepted}
+use Rattle.refusal.proofs.CountedLaws.{count_by}
 use Rattle.catalogue.specs.Check as catalogue
 use Rattle.catalogue.specs.CheckLaws.{valid-accepted, accepted-valid}
 use Rattle.catalogue.specs.Valid.{Valid}

@@ -5,7 +5,8 @@ use Rattle.std.proofs.Math.Path.{ap}
 use Rattle.std.proofs.Math.Nat.{le_refl}
 use Rattle.std.proofs.Common.{lt_irrefl, arith}
 use borrow.Author.Tests.{le-ltb, ltb-true, ltb-false, eq-eqb, eqb-true, eqb-false, not-true, not-false}
-use Rattle.lists.specs.First.{first as first_where, first-is, first_of}
+use Rattle.lists.specs.First.{first as first_where}
+use Rattle.lists.proofs.First.{first-is, first_of}
 use Rattle.catalogue_compare.specs.Changes.{fields, field_of, differ}
 
 module _ (first : List ℕ) (i : ℕ) (second : List ℕ) (j : ℕ) where

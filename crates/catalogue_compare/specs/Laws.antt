@@ -7,14 +7,14 @@ use Rattle.std.proofs.Math.Decide.{dec_lt}
 use borrow.Author.Tests.{eqb-true, eqb-false, ltb-true, ne_eqb, not-true}
 use Rattle.std.proofs.Math.Dec.{eqb}
 use Rattle.lists.specs.Contradiction.{contradiction}
-use Rattle.lists.specs.First.{first-is}
+use Rattle.lists.proofs.First.{first-is}
 use Rattle.catalogue.specs.Format.{records_in, identity_of}
 use Rattle.catalogue.specs.Valid.{Valid}
 use Rattle.catalogue_compare.specs.Changes.{place_of, has, differ, kind_of, is_listed, listed, changes_of}
 use Rattle.catalogue_compare.specs.DifferLaws.{differ-some, differ-any}
 use Rattle.catalogue_compare.specs.Places.{Rises, valid-rises, place_is, place_none, place-has}
 use Rattle.catalogue_compare.specs.Kinds.{kind-first, kind-second, kind-both, Way, only-first, only-second, differing, same, neither, way}
-use Rattle.lists.specs.Below.{Passing, passing}
+use Rattle.lists.proofs.Below.{Passing, passing}
 use Rattle.catalogue_compare.specs.Encoded.{changes-length}
 use Rattle.catalogue_compare.specs.Read.{identity_at, kind_at, read-identity, read-kind}
 use Rattle.catalogue_compare.specs.Fields.{Apart, apart-field, field_apart}

@@ -4,7 +4,7 @@ use Rattle.std.proofs.Math.Path.{sym}
 use Rattle.std.proofs.Math.Nat.{le_refl}
 use Rattle.std.proofs.Common.{lt_irrefl, arith}
 use borrow.Author.Tests.{lt-ltb, le-ltb, eq-eqb, ne_eqb}
-use Rattle.lists.specs.First.{first_of}
+use Rattle.lists.proofs.First.{first_of}
 use Rattle.words.specs.NumberLaws.{number-most}
 use Rattle.catalogue.specs.Format.{record_size, records_in, identity_of}
 use Rattle.catalogue.specs.Valid.{Valid}

@@ -9,7 +9,7 @@ use Rattle.catalogue_compare.specs.declared.step.Step.{Step}
 use Rattle.catalogue_compare.specs.Changes.{kind_of, is_listed, listed_below, listed}
 use Rattle.catalogue_compare.specs.Places.{Rises}
 use Rattle.catalogue_compare.specs.Kinds.{kind-none}
-use Rattle.lists.specs.Below.{below_next, below-skip, below_more}
+use Rattle.lists.proofs.Below.{below_next, below-skip, below_more}
 use Rattle.catalogue_compare.specs.Step.{step_of}
 use Rattle.catalogue_compare.specs.Cut.{Cut, cut-start, next-behind, cut-none}
 use Rattle.catalogue_compare.specs.StepLaws.{Stepped, stepped}

@@ -9,11 +9,11 @@ use Rattle.refusal.specs.declared.Outcome.{Outcome}
 use Rattle.refusal.specs.declared.Refusal.{Refusal}
 use Rattle.refusal.specs.Numbers as number
 use Rattle.refusal.specs.Table.{first_applying}
-use Rattle.refusal.specs.Laws.{last-unasked, last-decides}
+use Rattle.refusal.proofs.Laws.{last-unasked, last-decides}
 use Rattle.refusal.specs.AnswerLaws.{answer_by}
 use Rattle.refusal.specs.Counted.{count_answer}
-use Rattle.refusal.specs.CountedLaws.{count_by}
-use Rattle.lists.specs.Below.{below-same}
+use Rattle.refusal.proofs.CountedLaws.{count_by}
+use Rattle.lists.proofs.Below.{below-same}
 use Rattle.words.specs.Front.{at_front}
 use Rattle.catalogue.specs.Check as catalogue
 use Rattle.catalogue.specs.CheckLaws.{valid-accepted}

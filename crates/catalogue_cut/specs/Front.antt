@@ -5,8 +5,8 @@ use Rattle.std.proofs.Common.{◌∙◌, arith}
 use Rattle.std.proofs.Math.ListN.{length, get_or, replicate, length-append, length-replicate, get_or-replicate, get_or-append}
 use Rattle.std.proofs.Math.Seq.{take_at, get_or-append-add}
 use Rattle.lists.specs.Number.{number}
-use Rattle.lists.specs.NumberLaws.{number-most}
-use Rattle.lists.specs.Below.{Passing, passing, below-count}
+use Rattle.lists.proofs.NumberLaws.{number-most}
+use Rattle.lists.proofs.Below.{Passing, passing, below-count}
 use Rattle.catalogue.specs.Format.{record_size, records_in}
 use Rattle.catalogue_cut.specs.Flight.{is_kept, kept_in, records_at, flight_of, freed, cut_of}
 use Rattle.catalogue_cut.specs.Records.{Inside, records-length, records-byte}

@@ -6,7 +6,8 @@ use Rattle.std.proofs.Common.{sym, ap, subst, ◌∙◌, le_refl, lt_irrefl, ari
 use borrow.Author.Tests.{ltb-true, ltb-false, lt-ltb, eqb-false, ne_eqb, not-true}
 use Rattle.std.specs.Int.Signed.{le_z}
 use Rattle.lists.specs.Contradiction.{contradiction}
-use Rattle.lists.specs.First.{first as first_where, first-is}
+use Rattle.lists.specs.First.{first as first_where}
+use Rattle.lists.proofs.First.{first-is}
 use Rattle.lists.specs.TestsLaws.{both_true}
 use Rattle.catalogue.specs.Format.{records_in, magnitude_of}
 use Rattle.catalogue_cut.specs.Flight.{is_bright, product_of, crowds, is_crowded, is_kept}

@@ -4,8 +4,8 @@ use Rattle.std.specs.Prelude.{◌≡◌, List, ℕ, ◌+◌, ◌*◌, ◌/◌, �
 use Rattle.std.proofs.Math.Path.{sym, ap}
 use Rattle.std.proofs.Common.{subst, ◌∙◌}
 use native.Mathlib.Omega.{arith}
-use Rattle.lists.specs.NumberLaws.{number-most}
-use Rattle.lists.specs.Below.{Place}
+use Rattle.lists.proofs.NumberLaws.{number-most}
+use Rattle.lists.proofs.Below.{Place}
 use Rattle.numbers.specs.Within.{Within}
 use Rattle.words.specs.Number.{number_at}
 use Rattle.words.specs.NumberLaws.{number_same}

@@ -9,9 +9,9 @@ use Rattle.std.proofs.lemmas.List.{length-replicate, get_or-replicate}
 use Rattle.std.proofs.lemmas.List.Edits.{sets, sets-eq, length-paste}
 use Rattle.std.proofs.Math.Seq.{paste, paste-zero, paste-suc, length_paste_head}
 use Rattle.lists.specs.Number.{one}
-use Rattle.lists.specs.NumberLaws.{one-most}
+use Rattle.lists.proofs.NumberLaws.{one-most}
 use Rattle.lists.specs.Order.{pick, ordered}
-use Rattle.lists.specs.Below.{below_next, passing}
+use Rattle.lists.proofs.Below.{below_next, passing}
 use Rattle.words.specs.Front.{at_front, front-more, front-behind}
 use Rattle.catalogue.specs.Format.{record_size, records_in}
 use Rattle.catalogue_cut.specs.Flight.{record_at, records_at, freed}

@@ -5,10 +5,10 @@ use Rattle.refusal.specs.declared.Outcome.{Outcome}
 use Rattle.refusal.specs.declared.Refusal.{Refusal}
 use Rattle.refusal.specs.Numbers as number
 use Rattle.refusal.specs.Table.{first_applying}
-use Rattle.refusal.specs.Laws.{last-unasked, last-decides}
+use Rattle.refusal.proofs.Laws.{last-unasked, last-decides}
 use Rattle.refusal.specs.AnswerLaws.{answer_by}
 use Rattle.refusal.specs.Counted.{count_answer}
-use Rattle.refusal.specs.CountedLaws.{count_by}
+use Rattle.refusal.proofs.CountedLaws.{count_by}
 use Rattle.catalogue.specs.Check as catalogue
 use Rattle.catalogue.specs.CheckLaws.{valid-accepted}
 use Rattle.catalogue.specs.Stars.{stars_of}

@@ -5,7 +5,7 @@ use borrow.Author.Tests.{lt-ltb, le-ltb}
 use Rattle.refusal.specs.declared.Outcome.TheVariants.{Accepted}
 use Rattle.refusal.specs.Numbers as number
 use Rattle.refusal.specs.Table.{refusal_of, first_applying, otherwise}
-use Rattle.refusal.specs.Laws.{applying-append}
+use Rattle.refusal.proofs.Laws.{applying-append}
 use Rattle.frame_list.specs.input.Input.{frame_rows}
 use Rattle.frame_list.specs.ListingLaws.{listing-outcome}
 use Rattle.camera_lens.specs.Lens.{lens_ok}

@@ -8,7 +8,8 @@ use Rattle.refusal.specs.declared.Refusal.{Refusal}
 use Rattle.refusal.specs.declared.Outcome.{Outcome}
 use Rattle.refusal.specs.declared.Outcome.TheVariants.{Accepted, Refused}
 use Rattle.refusal.specs.Table.{Row, first_applying, otherwise}
-use Rattle.refusal.specs.Laws.{Silent, accepted-silent, otherwise-accepted, Every, every_append, applying-every}
+use Rattle.refusal.specs.Laws.{Silent, otherwise-accepted, Every, every_append}
+use Rattle.refusal.proofs.Laws.{accepted-silent, applying-every}
 use Rattle.frame_list.specs.declared.Report.{Report}
 use Rattle.frame_list.specs.input.Input.{frame_rows}
 use Rattle.frame_list.specs.Calls.{listing_of}

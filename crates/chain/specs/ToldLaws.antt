@@ -7,7 +7,8 @@ use Rattle.refusal.specs.declared.Outcome.{Outcome}
 use Rattle.refusal.specs.declared.Outcome.TheVariants.{Accepted, Refused}
 use Rattle.refusal.specs.Table.{row, first_applying, otherwise}
 use Rattle.refusal.specs.Answer.{Answer, refused_with, accepted_with, answer_of}
-use Rattle.refusal.specs.AnswerLaws.{answer_by, outcome-by, in-terms}
+use Rattle.refusal.specs.AnswerLaws.{answer_by, in-terms}
+use Rattle.refusal.proofs.AnswerLaws.{outcome-by}
 use Rattle.camera_lens.specs.Lens.{lens_ok}
 use Rattle.camera_direction.specs.Settings.{position_ok}
 use Rattle.catalogue.specs.Check.{refusals_of as catalogue_rows}

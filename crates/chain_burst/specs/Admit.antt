@@ -6,10 +6,11 @@ use borrow.Author.Tests.{not-false, ltb-false, eqb-true, lt-ltb, le-ltb, eq-eqb,
 use Rattle.refusal.specs.declared.Outcome.TheVariants.{Accepted}
 use Rattle.refusal.specs.Numbers as number
 use Rattle.refusal.specs.Table.{refusal_of, first_applying}
-use Rattle.refusal.specs.Laws.{Silent, accepted-silent}
+use Rattle.refusal.specs.Laws.{Silent}
+use Rattle.refusal.proofs.Laws.{accepted-silent}
 use Rattle.refusal.specs.AnswerLaws.{answer_by}
 use Rattle.refusal.specs.Counted.{count_answer}
-use Rattle.refusal.specs.CountedLaws.{count_by}
+use Rattle.refusal.proofs.CountedLaws.{count_by}
 use Rattle.frame_list.specs.input.Input.{size_out}
 use Rattle.frame_list.specs.input.InputLaws.{size-says}
 use Rattle.chain_burst.specs.records.Record.{record_size}

@@ -8,7 +8,8 @@ use Rattle.refusal.specs.declared.Outcome.{Outcome}
 use Rattle.refusal.specs.declared.Outcome.TheVariants.{Accepted, Refused}
 use Rattle.refusal.specs.Numbers as number
 use Rattle.refusal.specs.Table.{refusal_of, first_applying, answered, otherwise}
-use Rattle.refusal.specs.Laws.{applying-here, applying-append, otherwise-accepted, Every, every_append, applying-every}
+use Rattle.refusal.specs.Laws.{otherwise-accepted, Every, every_append}
+use Rattle.refusal.proofs.Laws.{applying-here, applying-append, applying-every}
 use Rattle.frame_list.specs.input.Input.{frame_rows}
 use Rattle.frame_list.specs.ListingLaws.{listing-outcome}
 use Rattle.catalogue.specs.Check as catalogue

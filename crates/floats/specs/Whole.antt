@@ -28,8 +28,3 @@ whole-value (negsuc n) h = round_whole binary64 true (suc n) h
 pub whole_back : (z : ℤ) → nat_abs z ≤ 2 ^ 53 → to_signed 63 (of_int binary64 z) ≡ z
 whole_back (pos n) h = (positive_back binary64 63 n (whole_float (pos n) h) (lt_of_le_of_lt h (lit< tt))).1
 whole_back (negsuc n) h = (negative_back binary64 63 n (whole_float (negsuc n) h) (le_trans h (lit≤ tt))).1
-
--- so the quotient of two of them is that of the numbers, rounded once
-pub whole-quotient : (z : ℤ) (n : ℕ) → nat_abs z ≤ 2 ^ 53 → n ≤ 2 ^ 53 → 0 < n
-    → div binary64 (of_int binary64 z) (of_int binary64 (pos n)) ≡ round binary64 (negative z) (nat_abs z) n
-whole-quotient z n h k p = quotient binary64 (of_int binary64 z) (of_int binary64 (pos n)) (negative z) (nat_abs z) n (whole-value z h) (whole-value (pos n) k) p

@@ -6,7 +6,8 @@ use Rattle.std.proofs.Math.Path.{ap, fun_ext}
 use Rattle.std.proofs.Math.Nat.{zero-div}
 use Rattle.std.proofs.Math.IntN.{pos, +ℤ_invr, +ℤ_idr, +ℤ_idl}
 use Rattle.std.specs.Int.Signed.{quot_z}
-use Rattle.numbers.specs.Solver.{var, ◌⊕◌, ◌⊖◌, ring}
+use Rattle.numbers.specs.Solver.{var, ◌⊕◌, ◌⊖◌}
+use Rattle.numbers.proofs.Solver.{ring}
 use Rattle.frame_centroid.specs.Sums.{sum_below, sumℤ-below, quotient-small}
 use Rattle.frame_centroid.specs.Centroid.{weight, brightness, offset, shift_x, shift_y, along, centroid_of}
 use Rattle.frame_centroid.specs.Moments.{moment_x, moment_y, position, from_moments, MomentsOf}

@@ -9,12 +9,15 @@ use Rattle.std.proofs.Math.Seq.{get_or-take, get_or-append-add}
 use Rattle.lists.specs.Contradiction.{contradiction}
 use Rattle.lists.specs.Number.{one, number}
 use Rattle.refusal.specs.Table.{refusal_of, first_applying, answered}
-use Rattle.refusal.specs.Laws.{Silent, Given, given-refused, refused-given, silent-accepted}
-use Rattle.refusal.specs.AnswerLaws.{answer_by, answered-by}
+use Rattle.refusal.specs.Laws.{Silent, Given}
+use Rattle.refusal.proofs.Laws.{given-refused, refused-given, silent-accepted}
+use Rattle.refusal.specs.AnswerLaws.{answer_by}
+use Rattle.refusal.proofs.AnswerLaws.{answered-by}
 use Rattle.refusal.specs.declared.Outcome.{Outcome}
 use Rattle.refusal.specs.declared.Outcome.TheVariants.{Accepted}
 use Rattle.lists.specs.Order.{pick, put, ordered}
-use Rattle.lists.specs.Laws.{put-length, count, each-once, none-beyond, InOrder, in_order}
+use Rattle.lists.specs.Laws.{count, InOrder}
+use Rattle.lists.proofs.Laws.{put-length, each-once, none-beyond, in_order}
 use Rattle.frame_centroid.specs.declared.Centroid.{Centroid}
 use Rattle.frame_verdict.specs.Verdict.{verdict_of}
 use Rattle.frame_verdict.specs.Laws.{measured-range}

@@ -10,11 +10,13 @@ use Rattle.lists.specs.Contradiction.{contradiction}
 use Rattle.refusal.specs.declared.Outcome.{Outcome}
 use Rattle.refusal.specs.declared.Outcome.TheVariants as outcomes
 use Rattle.refusal.specs.Table.{first_applying, answered}
-use Rattle.refusal.specs.AnswerLaws.{answer_by, answered-by, in-terms}
+use Rattle.refusal.specs.AnswerLaws.{answer_by, in-terms}
+use Rattle.refusal.proofs.AnswerLaws.{answered-by}
 use Rattle.frame_window.specs.declared.Beating.{Beating}
 use Rattle.frame_window.specs.declared.Beating.TheVariants.{At, Nothing}
 use Rattle.frame_window.specs.Window.{at, beaten, first_beating}
-use Rattle.frame_window.specs.FirstLaws.{FirstAt, first_says, found-beaten, nothing-unbeaten}
+use Rattle.frame_window.specs.FirstLaws.{FirstAt, found-beaten, nothing-unbeaten}
+use Rattle.frame_window.proofs.FirstLaws.{first_says}
 use Rattle.frame_window.specs.neighbours.Neighbours.{half, lone, largest_beside}
 use Rattle.frame_window.specs.neighbours.Laws.{LargestBeside, largest-is}
 use Rattle.frame_centroid.specs.Centroid.{centroid_of}

@@ -5,7 +5,7 @@ use Rattle.std.proofs.Common.{inl, not-suc-le-zero, suc-mul, ltb-true, ltb-false
 use native.Mathlib.Omega.{arith}
 use Rattle.frame_window.specs.Window.{at, beaten}
 use Rattle.frame_window.specs.Laws.{InWindow}
-use Rattle.frame_window.specs.Unbeaten.{none-larger, earlier-smaller}
+use Rattle.frame_window.proofs.Unbeaten.{none-larger, earlier-smaller}
 use Rattle.frame_centroid.specs.Sums.{sum_below}
 use Rattle.frame_centroid.specs.Border.{border, border_sum, sampled, table-sum, row_below, column-below}
 use Rattle.frame_centroid.specs.Centroid.{weight, brightness}

@@ -2,6 +2,5 @@
 pub mod Window
 pub mod Laws
 pub mod FirstLaws
-pub mod Unbeaten
 pub mod Place
 pub mod neighbours

@@ -11,7 +11,7 @@ use Rattle.lists.specs.Number.{one, number}
 use Rattle.frame_list.specs.declared.Listing.{Listing}
 use Rattle.guider_rule.specs.declared.Guide.{Guide}
 use Rattle.guider_rule.specs.declared.Guider.{Guider}
-use Rattle.lists.specs.One.{all-counted}
+use Rattle.lists.proofs.One.{all-counted}
 use Rattle.guider_rule.specs.Guider.{guide_at, star_at, moved, guide_after, guider_after}
 use Rattle.guider_rule.specs.Rule.{guider_ok}
 use Rattle.guider_rule.specs.RuleLaws.{guider-keeps}

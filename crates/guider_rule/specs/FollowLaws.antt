@@ -7,14 +7,15 @@ use Rattle.std.proofs.Math.Decide.{dec_lt}
 use Rattle.std.proofs.Math.Dec.{eqb}
 use borrow.Author.Tests.{leb-true, le-leb, ltb-true, lt-ltb, le-ltb, eqb-true, eq-eqb, eqb-false, not-true}
 use Rattle.lists.specs.Contradiction.{contradiction}
-use Rattle.lists.specs.First.{first, first-is, first_of}
+use Rattle.lists.specs.First.{first}
+use Rattle.lists.proofs.First.{first-is, first_of}
 use Rattle.lists.specs.Number.{number}
 use Rattle.lists.specs.TestsLaws.{and_left, and_right, and_both, some-none, none-some, not-of}
 use Rattle.frame_centroid.specs.declared.Centroid.{Centroid}
 use Rattle.frame_list.specs.declared.Report.{Report}
 use Rattle.guider_rule.specs.declared.Guide.{Guide}
 use Rattle.guider_rule.specs.declared.Guider.{Guider}
-use Rattle.lists.specs.One.{first_counted, only_one, one-counted}
+use Rattle.lists.proofs.One.{first_counted, only_one, one-counted}
 use Rattle.guider_rule.specs.Guider.{guide_at, star_at, apart, in_box, live, claims, shared, inside, star_in, follows, moved, missed, guide_after}
 
 -- the star lies in the box around the guide's position, its border included

@@ -4,9 +4,6 @@ pub mod Tests
 pub mod TestsLaws
 pub mod First
 pub mod Number
-pub mod NumberLaws
-pub mod One
 pub mod Order
 pub mod Laws
 pub mod InPlace
-pub mod Below

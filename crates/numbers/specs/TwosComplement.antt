@@ -34,7 +34,3 @@ module _ (half word : ℕ) where
 
   pub signed_high : half ≤ word → signed_by half word ≡ negsuc (half + half - 1 - word)
   signed_high h = rw (le-ltb word half h)
-
--- in plain terms: in the upper half it is the word less the count of the words, suc m
-pub signed-plain : (half m word : ℕ) → half + half ≡ suc m → half ≤ word → word ≤ m → signed_by half word ≡ pos word -ℤ pos (suc m)
-signed-plain half m word e h k = signed_high half word h ∙ rw (lt-ltb word (suc m) (omega arith)) (ap negsuc (omega arith))

@@ -8,7 +8,8 @@ use Rattle.std.proofs.Math.Nat.{suc-mul, mul-le-mul_right}
 use native.Mathlib.Omega.{arith}
 use Rattle.std.proofs.Math.ListN.{length, get_or, length-append, get_or-append}
 use Rattle.std.proofs.Math.Seq.{get_or-append-add}
-use Rattle.lists.specs.Laws.{count, each-once, in_order, Ahead, InOrder}
+use Rattle.lists.specs.Laws.{count, Ahead, InOrder}
+use Rattle.lists.proofs.Laws.{each-once, in_order}
 use Rattle.vectors.specs.Triples.{triples}
 use Rattle.ranking_votes.specs.Votes.{votes_of}
 use Rattle.ranking.specs.row.Row.{every}

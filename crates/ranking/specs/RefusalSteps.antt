@@ -7,7 +7,8 @@ use Rattle.refusal.specs.declared.Outcome.{Outcome}
 use Rattle.refusal.specs.declared.Outcome.TheVariants.{Accepted, Refused}
 use Rattle.refusal.specs.Numbers as number
 use Rattle.refusal.specs.Table.{refusal_of, first_applying, answered}
-use Rattle.refusal.specs.Laws.{applying-here, applying-next, applying-append, silent-accepted, Silent}
+use Rattle.refusal.specs.Laws.{Silent}
+use Rattle.refusal.proofs.Laws.{applying-here, applying-next, applying-append, silent-accepted}
 use Rattle.camera_direction.specs.List.{list_ok}
 use Rattle.camera_direction.specs.ListLaws.{directions_in}
 use Rattle.catalogue.specs.Format.{records_in}

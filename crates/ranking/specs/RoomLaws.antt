@@ -7,9 +7,11 @@ use Rattle.refusal.specs.declared.Refusal.{Refusal}
 use Rattle.refusal.specs.declared.Outcome.{Outcome}
 use Rattle.refusal.specs.declared.Outcome.TheVariants.{Accepted, Refused}
 use Rattle.refusal.specs.Table.{first_applying}
-use Rattle.refusal.specs.Laws.{Silent, accepted-silent}
+use Rattle.refusal.specs.Laws.{Silent}
+use Rattle.refusal.proofs.Laws.{accepted-silent}
 use Rattle.refusal.specs.Answer.{answer_of}
-use Rattle.refusal.specs.AnswerLaws.{answer_by, outcome-by}
+use Rattle.refusal.specs.AnswerLaws.{answer_by}
+use Rattle.refusal.proofs.AnswerLaws.{outcome-by}
 use Rattle.camera_direction.specs.List.{list_ok}
 use Rattle.camera_direction.specs.ListLaws.{directions_in, Directions, ok-directions, directions-ok}
 use Rattle.catalogue.specs.Format.{records_in}

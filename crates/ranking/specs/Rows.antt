@@ -6,7 +6,7 @@ use Rattle.std.proofs.Math.Numerals.{add-one}
 use native.Mathlib.Omega.{arith}
 use Rattle.std.proofs.Math.ListN.{drop}
 use Rattle.std.proofs.Math.Seq.{take_at, drop-append-add, drop-drop}
-use Rattle.lists.specs.Laws.{ordered-ext}
+use Rattle.lists.proofs.Laws.{ordered-ext}
 use Rattle.vectors.specs.Triples.{triples}
 use Rattle.ranking_votes.specs.Votes.{votes_of, counters_of}
 use Rattle.ranking_votes.specs.Laws.{counter-within}

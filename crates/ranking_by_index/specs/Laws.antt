@@ -8,7 +8,8 @@ use Rattle.refusal.specs.declared.Outcome.TheVariants.{Accepted, Refused}
 use Rattle.refusal.specs.Numbers as number
 use Rattle.refusal.specs.Table.{refusal_of, first_applying, answered, otherwise}
 use Rattle.refusal.specs.Answer.{answer_of}
-use Rattle.refusal.specs.AnswerLaws.{answer_by, outcome-by}
+use Rattle.refusal.specs.AnswerLaws.{answer_by}
+use Rattle.refusal.proofs.AnswerLaws.{outcome-by}
 use Rattle.catalogue.specs.Format.{records_in}
 use Rattle.catalogue.specs.Check as catalogue
 use Rattle.catalogue.specs.CheckLaws.{accepted-valid, valid-accepted}

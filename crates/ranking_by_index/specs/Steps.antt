@@ -8,7 +8,7 @@ use Rattle.refusal.specs.declared.Outcome.{Outcome}
 use Rattle.refusal.specs.declared.Outcome.TheVariants.{Accepted, Refused}
 use Rattle.refusal.specs.Numbers as number
 use Rattle.refusal.specs.Table.{refusal_of, first_applying, otherwise}
-use Rattle.refusal.specs.Laws.{applying-here, applying-next, applying-append}
+use Rattle.refusal.proofs.Laws.{applying-here, applying-next, applying-append}
 use Rattle.catalogue.specs.Format.{records_in}
 use Rattle.catalogue.specs.Check as catalogue
 use Rattle.catalogue.specs.CheckLaws.{valid-accepted}

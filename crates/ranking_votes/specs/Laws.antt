@@ -5,7 +5,7 @@ use Rattle.std.proofs.Common.{◌∙◌, not-suc-le-zero, arith, length-append, 
 use Rattle.std.proofs.Math.Decide.{ℕ_discrete}
 use Rattle.std.proofs.Math.ListN.{get_or-append}
 use Rattle.std.proofs.lemmas.List.{get_or_at}
-use Rattle.lists.specs.NumberLaws.{number-none, number-but, pairs-but}
+use Rattle.lists.proofs.NumberLaws.{number-none, number-but, pairs-but}
 use Rattle.vectors.specs.Triples.{triples}
 use Rattle.ranking_votes.specs.Votes.{other, is_vote, votes_of, firsts, counters_of}
 

@@ -4,11 +4,12 @@ use Rattle.std.proofs.Common.{sym, ap, ◌∙◌, arith, le-ltb}
 use Rattle.std.proofs.Math.Bool.{and-false}
 use Rattle.std.specs.Int.Signed.{non_neg}
 use Rattle.numbers.specs.Abs.{abs-add, abs-zero-sub}
-use Rattle.numbers.specs.Solver.{var, num, ◌⊕◌, ◌⊖◌, ring}
+use Rattle.numbers.specs.Solver.{var, num, ◌⊕◌, ◌⊖◌}
+use Rattle.numbers.proofs.Solver.{ring}
 use Rattle.numbers.specs.Within.{Within}
 use Rattle.vectors.specs.Agree.{agreeing, agreeing-near}
 use Rattle.lists.specs.Number.{number}
-use Rattle.lists.specs.NumberLaws.{number-none}
+use Rattle.lists.proofs.NumberLaws.{number-none}
 use Rattle.ranking_votes.specs.Votes.{other}
 use Rattle.ranking_votes.specs.Progress.{agrees_with}
 use Rattle.ranking_votes.specs.Near.{lifted_of, place_of, Marks, AllMarked}

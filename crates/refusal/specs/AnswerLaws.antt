@@ -14,30 +14,6 @@ unfoldable pub answer_by : List Row → List ℤ → Answer
 answer_by [] values = accepted_with values
 answer_by (r ∷ rs) values = cond r.applies (refused_with r.number r.place) (answer_by rs values)
 
--- what a call gives by its rows, put into document 01's terms
-module _
-    {A : Type 0} (refused : Refusal → A) (a : A) (toAnswer : A → Answer) (values : List ℤ)
-    (of-refused : (r : Refusal) → toAnswer (refused r) ≡ refused_with r.number r.place)
-    (of-accepted : toAnswer a ≡ accepted_with values) where
-  pub answered-by : (rows : List Row) → toAnswer (answered refused a (first_applying rows)) ≡ answer_by rows values
-  unfolding first_applying answer_by
-  answered-by [] = of-accepted
-  answered-by (r ∷ rs) = by r.applies (answered-by rs)
-    where
-      by : (c : Bool) → toAnswer (answered refused a (first_applying rs)) ≡ answer_by rs values
-          → toAnswer (answered refused a (cond c (refusal_of r.number r.place) (first_applying rs))) ≡ cond c (refused_with r.number r.place)
-          (answer_by rs values)
-      by true e = of-refused (record { number = r.number; place = r.place })
-      by false e = e
-
 -- a call promises what it gives, and that in document 01's terms: the second follows from the first
 pub in-terms : {A : Type 0} (toAnswer : A → Answer) {r a : A} {x : Answer} → r ≡ a → toAnswer a ≡ x → (r ≡ a) × (toAnswer r ≡ x)
 in-terms toAnswer e f = (e, ap toAnswer e ∙ f)
-
--- the same of a call whose answer is its outcome alone
-pub outcome-by : (rows : List Row) → answer_of (first_applying rows) ≡ answer_by rows []
-outcome-by rows = ap answer_of (sym (same (first_applying rows))) ∙ answered-by Refused Accepted answer_of [] (λ r. refl) refl rows
-  where
-    same : (o : Outcome) → answered Refused Accepted o ≡ o
-    same Accepted = refl
-    same (Refused r) = refl

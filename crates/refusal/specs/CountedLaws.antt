@@ -7,12 +7,9 @@ use Rattle.refusal.specs.declared.Outcome.{Outcome}
 use Rattle.refusal.specs.declared.Outcome.TheVariants.{Accepted}
 use Rattle.refusal.specs.declared.Counted.TheVariants.{Refused, Count}
 use Rattle.refusal.specs.Table.{Row, first_applying}
-use Rattle.refusal.specs.AnswerLaws.{answer_by, answered-by}
+use Rattle.refusal.specs.AnswerLaws.{answer_by}
+use Rattle.refusal.proofs.AnswerLaws.{answered-by}
 use Rattle.refusal.specs.Counted.{counted_of, count_answer}
-
--- the answer is that of the first row that applies, or the count
-pub count_by : (n : ℕ) (rows : List Row) → count_answer (counted_of n (first_applying rows)) ≡ answer_by rows (pos n ∷ [])
-count_by n rows = answered-by Refused (Count n) count_answer (pos n ∷ []) (λ r. refl) refl rows
 
 -- a count is given where nothing is refused
 pub count-accepted : (k n : ℕ) (o : Outcome) → counted_of k o ≡ Count n → (o ≡ Accepted) × (n ≡ k)

@@ -10,7 +10,8 @@ use lib.ListN.{length}
 use lib.Dec.{leb, ltb, eqb}
 use borrow.Author.Tests.{le-leb, lt-leb, leb-false, eq-eqb, ne_eqb, eqb-true, eqb-false, lt-ltb, le-ltb, ltb-false}
 use Rattle.lists.specs.Contradiction.{contradiction}
-use Rattle.lists.specs.First.{first, first-is, first_of}
+use Rattle.lists.specs.First.{first}
+use Rattle.lists.proofs.First.{first-is, first_of}
 use Rattle.search_theory.specs.Order.{Ranked}
 use Rattle.search_theory.proofs.Tests as tests
 use Rattle.search_theory.proofs.Tests.{le-or-lt}

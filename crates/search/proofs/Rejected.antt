@@ -12,7 +12,8 @@ use Rattle.refusal.specs.declared.Outcome.{Outcome}
 use Rattle.refusal.specs.declared.Outcome.TheVariants.{Accepted, Refused}
 use Rattle.refusal.specs.Numbers as number
 use Rattle.refusal.specs.Table.{Row, refusal_of, first_applying, answered}
-use Rattle.refusal.specs.Laws.{Silent, accepted-silent, applying-append}
+use Rattle.refusal.specs.Laws.{Silent}
+use Rattle.refusal.proofs.Laws.{accepted-silent, applying-append}
 use Rattle.search_theory.specs.Order.{Ranked}
 use Rattle.search_theory.proofs.Tests as tests
 use Rattle.camera_direction.specs.List.{list_ok}

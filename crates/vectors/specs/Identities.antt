@@ -1,6 +1,7 @@
 -- What always holds of dot products, cross products and determinants, each by the solver. Assumes nothing.
 use Rattle.std.specs.Prelude.{◌≡◌, [], ◌∷◌, ℤ, pos, ◌+ℤ◌, ◌-ℤ◌, ◌*ℤ◌}
-use Rattle.numbers.specs.Solver.{var, num, ◌⊕◌, ◌⊖◌, ◌⊗◌, ring}
+use Rattle.numbers.specs.Solver.{var, num, ◌⊕◌, ◌⊖◌, ◌⊗◌}
+use Rattle.numbers.proofs.Solver.{ring}
 use Rattle.vectors.specs.declared.Vec3.{Vec3}
 use Rattle.vectors.specs.Vectors.{dot_of, cross_of}
 use Rattle.vectors.specs.Symbols.{vec, ◌▹◌, ◌⊙◌, cross, times_of, times, more_of, more, less_of, less, mix_of, mix, det_of, det, turn_of}

@@ -10,7 +10,8 @@ use Rattle.refusal.specs.declared.Refusal.{Refusal}
 use Rattle.refusal.specs.declared.Outcome.{Outcome}
 use Rattle.refusal.specs.declared.Outcome.TheVariants.{Accepted, Refused}
 use Rattle.refusal.specs.Table.{first_applying, answered, otherwise}
-use Rattle.refusal.specs.Laws.{Silent, accepted-silent, otherwise-accepted}
+use Rattle.refusal.specs.Laws.{Silent, otherwise-accepted}
+use Rattle.refusal.proofs.Laws.{accepted-silent}
 use Rattle.vectors.specs.declared.Vec3.{Vec3}
 use Rattle.vectors.specs.Triples.{triple_at}
 use Rattle.vectors.specs.Unit.{NearlyUnit}

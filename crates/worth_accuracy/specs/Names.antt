@@ -6,7 +6,8 @@ use Rattle.std.proofs.Common.{sym, ap, ◌∙◌, subst, arith}
 use Rattle.refusal.specs.declared.Outcome.TheVariants.{Accepted}
 use Rattle.refusal.specs.Table.{first_applying, answered}
 use Rattle.numbers.specs.Within.{Within}
-use Rattle.numbers.specs.Solver.{var, ◌⊖◌, ring}
+use Rattle.numbers.specs.Solver.{var, ◌⊖◌}
+use Rattle.numbers.proofs.Solver.{ring}
 use Rattle.numbers.specs.Split.{within-as}
 use Rattle.vectors.specs.declared.Vec3.{Vec3}
 use Rattle.vectors.specs.Vectors.{Within3}

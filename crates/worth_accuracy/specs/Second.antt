@@ -12,7 +12,8 @@ use Rattle.std.specs.Int.Signed.{quot_z}
 use Rattle.numbers.specs.Abs.{abs-add, abs-mul, abs-zero-sub}
 use Rattle.numbers.specs.Within.{Within, wider, within-add, within-sub, within-mul}
 use Rattle.numbers.specs.Root.{root}
-use Rattle.numbers.specs.Solver.{var, num, ◌⊕◌, ◌⊖◌, ◌⊗◌, ring}
+use Rattle.numbers.specs.Solver.{var, num, ◌⊕◌, ◌⊖◌, ◌⊗◌}
+use Rattle.numbers.proofs.Solver.{ring}
 use Rattle.numbers.specs.Split.{Split, split, within-as, within_none, within-pos, cut}
 use Rattle.numbers.specs.Squares.{square, not-above}
 use Rattle.vectors.specs.declared.Vec3.{Vec3}

@@ -5,7 +5,8 @@ use Rattle.std.proofs.Common.{◌∙◌, arith, leb-true, lit<}
 use Rattle.std.specs.Int.Signed.{quot_z}
 use Rattle.lists.specs.Contradiction.{contradiction}
 use Rattle.numbers.specs.Within.{Within, wider, within-add, within-sub}
-use Rattle.numbers.specs.Solver.{var, num, ◌⊕◌, ◌⊖◌, ◌⊗◌, ring}
+use Rattle.numbers.specs.Solver.{var, num, ◌⊕◌, ◌⊖◌, ◌⊗◌}
+use Rattle.numbers.proofs.Solver.{ring}
 use Rattle.numbers.specs.Split.{Split, split, within-as, cut}
 use Rattle.vectors.specs.declared.Vec3.{Vec3}
 use Rattle.vectors.specs.Vectors.{Within3}

@@ -9,7 +9,8 @@ use Rattle.std.proofs.Math.Numerals.{add-one}
 use native.Mathlib.Omega.{arith}
 use Rattle.std.proofs.Math.Dec.{leb}
 use Rattle.lists.specs.Contradiction.{contradiction}
-use Rattle.lists.specs.First.{First, first, first-is}
+use Rattle.lists.specs.First.{First, first}
+use Rattle.lists.proofs.First.{first-is}
 use Rattle.search_theory.specs.Order.{at}
 use Rattle.search_theory.specs.Problem.{one, assigned}
 use Rattle.lists.specs.TestsLaws.{and_left, and_right}

@@ -18,7 +18,8 @@ use Rattle.refusal.specs.declared.Refusal.{Refusal}
 use Rattle.refusal.specs.declared.Outcome.{Outcome}
 use Rattle.refusal.specs.declared.Outcome.TheVariants.{Accepted, Refused}
 use Rattle.refusal.specs.Table.{first_applying}
-use Rattle.refusal.specs.Laws.{Every, applying-every}
+use Rattle.refusal.specs.Laws.{Every}
+use Rattle.refusal.proofs.Laws.{applying-every}
 use Rattle.frame_centroid.specs.declared.Centroid.{Centroid}
 use Rattle.frame_list.specs.input.Input.{frame_rows}
 use Rattle.frame_list.specs.input.InputLaws.{accepted-valid}

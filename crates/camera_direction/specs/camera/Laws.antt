@@ -6,8 +6,9 @@ use Rattle.std.proofs.Common.{sym, ◌∙◌}
 use Rattle.lists.specs.Contradiction.{contradiction}
 use Rattle.refusal.specs.declared.Outcome.{Outcome}
 use Rattle.refusal.specs.Table.{first_applying, answered}
-use Rattle.refusal.specs.Laws.{applying-here, applying-next}
-use Rattle.refusal.specs.AnswerLaws.{answer_by, answered-by}
+use Rattle.refusal.proofs.Laws.{applying-here, applying-next}
+use Rattle.refusal.specs.AnswerLaws.{answer_by}
+use Rattle.refusal.proofs.AnswerLaws.{answered-by}
 use Rattle.vectors.specs.declared.Vec3.{Vec3}
 use Rattle.vectors.specs.Vectors.{Within3}
 use Rattle.camera_direction.specs.declared.Direction.TheVariants.{Refused, Found}

@@ -5,7 +5,7 @@ use borrow.Author.Tests.{ltb-false}
 use Rattle.refusal.specs.declared.Counted.TheVariants.{Count}
 use Rattle.refusal.specs.Numbers as number
 use Rattle.refusal.specs.Table.{first_applying}
-use Rattle.refusal.specs.Laws.{last-accepted}
+use Rattle.refusal.proofs.Laws.{last-accepted}
 use Rattle.refusal.specs.CountedLaws.{count-accepted}
 use Rattle.catalogue.specs.Check as catalogue
 use Rattle.catalogue.specs.Stars.{stars_of}

@@ -5,13 +5,16 @@ use mathlib.Core.List.{List, [], ◌∷◌, ◌++◌}
 use Rattle.std.proofs.Math.Nat.{mul_comm}
 use Rattle.std.proofs.Math.ListN.{length}
 use borrow.Author.Tests.{lt-ltb, le-ltb, ltb-true, ltb-false, leb-true, leb-false, le-leb, eqb-true, eq-eqb, not-false}
-use Rattle.lists.specs.First.{First, first-is, first_of}
+use Rattle.lists.specs.First.{First}
+use Rattle.lists.proofs.First.{first-is, first_of}
 use Rattle.lists.specs.TestsLaws.{both_true, neither-true}
 use Rattle.refusal.specs.Numbers as numbers
 use Rattle.refusal.specs.Table.{row, refusal_of, first_applying, otherwise}
 use Rattle.refusal.specs.Answer.{accepted_with, answer_of}
-use Rattle.refusal.specs.AnswerLaws.{answer_by, outcome-by, in-terms}
-use Rattle.refusal.specs.Laws.{Silent, accepted-silent, applying-here, applying-next, applying-append}
+use Rattle.refusal.specs.AnswerLaws.{answer_by, in-terms}
+use Rattle.refusal.proofs.AnswerLaws.{outcome-by}
+use Rattle.refusal.specs.Laws.{Silent}
+use Rattle.refusal.proofs.Laws.{accepted-silent, applying-here, applying-next, applying-append}
 use Rattle.refusal.specs.declared.Refusal.{Refusal}
 use Rattle.refusal.specs.declared.Outcome.{Outcome}
 use Rattle.refusal.specs.declared.Outcome.TheVariants.{Accepted, Refused}

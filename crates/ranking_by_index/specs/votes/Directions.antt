@@ -8,7 +8,7 @@ use Rattle.numbers.specs.Within.{Within}
 use Rattle.vectors.specs.Triples.{triples, Listed, pair_dot}
 use Rattle.vectors.specs.Agree.{agreeing}
 use Rattle.lists.specs.Number.{one, number, pairs}
-use Rattle.lists.specs.NumberLaws.{number-none, number-most}
+use Rattle.lists.proofs.NumberLaws.{number-none, number-most}
 use Rattle.ranking_votes.specs.Votes.{other}
 use Rattle.ranking_votes.specs.Progress.{Setting, vote_by, from, so_far}
 use Rattle.catalogue_index.specs.records.Format.{high_at, encoded}

@@ -11,7 +11,7 @@ use Rattle.std.specs.Int.{w64}
 use Rattle.vectors.specs.Triples.{triples, Listed, pair_dot}
 use Rattle.vectors.specs.Laws.{pair_comm}
 use Rattle.lists.specs.Number.{one, number}
-use Rattle.lists.specs.NumberLaws.{number_same}
+use Rattle.lists.proofs.NumberLaws.{number_same}
 use Rattle.ranking_votes.specs.Votes.{other}
 use Rattle.catalogue_index.specs.records.Format.{high_at, low_at, key_from, encoded}
 use Rattle.catalogue_index.specs.records.Order.{insert, sorted}

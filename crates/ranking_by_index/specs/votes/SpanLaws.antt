@@ -7,7 +7,7 @@ use native.Mathlib.Omega.{arith}
 use borrow.Author.Tests.{le-leb, lt-leb, eq-eqb, ne_eqb}
 use Rattle.std.proofs.Math.Dec.{leb}
 use Rattle.lists.specs.Number.{one}
-use Rattle.lists.specs.NumberLaws.{one-most}
+use Rattle.lists.proofs.NumberLaws.{one-most}
 use Rattle.vectors.specs.Triples.{pair_dot}
 use Rattle.catalogue_index.specs.Raised.{raised}
 use Rattle.ranking_by_index.specs.votes.Span.{named, given, sum_to, in_span, meets, row_votes}

@@ -8,7 +8,7 @@ use mir.Syntax.{w64}
 use mir.Val.{to_z, of_z}
 use Rattle.numbers.specs.Num.{Num, arg, back, near}
 use Rattle.lists.specs.Number.{one, number}
-use Rattle.lists.specs.NumberLaws.{one-most, number-next, number-most}
+use Rattle.lists.proofs.NumberLaws.{one-most, number-next, number-most}
 use Rattle.ranking_votes.specs.Progress.{agrees_by, agrees_with}
 use Rattle.ranking_votes.proofs.agreeing_with.Statement.{statement}
 use Rattle.ranking_votes.proofs.agreeing_with.Tie as tie

@@ -17,10 +17,6 @@ thousandth-small {z} h = record { within = rw abs-quot (div-le_of_le-mul 1000 {m
 pub thousandth-within : {v : Vec3} → Within3 1000000000 v → Within3 1000000 (thousandth_of v)
 thousandth-within h = record { x = thousandth-small h.x; y = thousandth-small h.y; z = thousandth-small h.z }
 
-pub triple-within : {a b c : Vec3} → Within3 1000000000 a → Within3 1000000000 b → Within3 1000000000 c → Within 6000000000000000000 (triple_of a b c)
-unfolding triple_of
-triple-within f g h = dot-within (thousandth-within f) (cross-within (thousandth-within g) (thousandth-within h))
-
 -- ---- mirror images
 
 -- no product is both

@@ -8,7 +8,8 @@ use mathlib.Core.List.{List}
 use Prim.Native.Nat.{ℕ, ◌+◌, ◌-◌, ◌≤◌, ◌<◌}
 use native.Mathlib.Omega.{arith}
 use lib.Dec.{leb, ltb}
-use Rattle.lists.specs.First.{First, first_of}
+use Rattle.lists.specs.First.{First}
+use Rattle.lists.proofs.First.{first_of}
 use Rattle.search_theory.specs.Order.{at}
 use Rattle.attitude.specs.orient.Orient.{assigned_from}
 use Rattle.attitude.proofs.orient.assigned_from.Statement.{statement}

@@ -3,7 +3,7 @@ use borrow.Author.Rules.{rules}
 use mathlib.Core.List.{[]}
 use mathlib.Core.Path.{sym, ◌∙◌}
 use Rattle.refusal.specs.Table.{first_applying}
-use Rattle.refusal.specs.Laws.{applying-here, applying-next}
+use Rattle.refusal.proofs.Laws.{applying-here, applying-next}
 use Rattle.attitude_gimbal.specs.Cosines.{refusals_of}
 use Rattle.attitude_gimbal.proofs.refusals.tested.Statement.{statement}
 use Rattle.attitude_gimbal.proofs.refusals.tested.Tie as tie

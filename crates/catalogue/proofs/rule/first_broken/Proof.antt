@@ -6,7 +6,7 @@ use Prim.Native.Nat.{ℕ, ◌-◌, ◌≤◌, ◌<◌}
 use native.Mathlib.Nat.{le_refl, lt_irrefl}
 use native.Mathlib.Omega.{arith}
 use Rattle.catalogue.specs.Rule.{record_ok}
-use Rattle.lists.specs.First.{first_of}
+use Rattle.lists.proofs.First.{first_of}
 use Rattle.catalogue.specs.Check.{broken_of}
 use Rattle.catalogue.proofs.rule.first_broken.Statement.{statement}
 use Rattle.catalogue.proofs.rule.first_broken.Tie as tie

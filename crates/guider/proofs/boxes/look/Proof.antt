@@ -6,10 +6,11 @@ use mathlib.Core.Bool.{Bool, true}
 use mathlib.Core.Logic.{⊎_elim}
 use Prim.Native.Nat.{ℕ, ◌≤◌, ◌<◌, ◌-◌}
 use native.Mathlib.Omega.{arith}
-use Rattle.lists.specs.First.{first, first-is}
+use Rattle.lists.specs.First.{first}
+use Rattle.lists.proofs.First.{first-is}
 use Rattle.lists.specs.Number.{one, number}
-use Rattle.lists.specs.NumberLaws.{number-next, number-most}
-use Rattle.lists.specs.One.{first_counted, only_one}
+use Rattle.lists.proofs.NumberLaws.{number-next, number-most}
+use Rattle.lists.proofs.One.{first_counted, only_one}
 use Rattle.guider_rule.specs.Guider.{star_at}
 use Rattle.guider.specs.boxes.Sight.{holds}
 use Rattle.guider.proofs.boxes.look.Statement.{statement}

@@ -8,7 +8,7 @@ use Prim.Native.Nat.{ℕ, ◌≤◌, ◌<◌, ◌-◌}
 use native.Mathlib.Omega.{arith}
 use lib.ListN.{get_or}
 use Rattle.search.specs.Once.{clash}
-use Rattle.lists.specs.First.{first_of}
+use Rattle.lists.proofs.First.{first_of}
 use Rattle.search.proofs.Once.{clash-range, clash-repeat, clash-free}
 use Rattle.search.proofs.Seen as table
 use Rattle.search.proofs.lent.fresh_words.Statement.{statement}

@@ -3,7 +3,7 @@ use Prim.Native.Nat.{◌+◌, ◌/◌, ◌%◌}
 use native.Mathlib.Omega.{arith}
 use lib.Dec.{eqb}
 use lib.ListN.{get_or, set, length-set}
-use Rattle.lists.specs.NumberLaws.{one-most}
+use Rattle.lists.proofs.NumberLaws.{one-most}
 use Rattle.ranking_by_index.specs.votes.Span.{named}
 use Rattle.ranking_by_index.specs.votes.SpanLaws.{raised_at}
 use borrow.Author.Rules.{rules}

@@ -3,7 +3,8 @@ use Rattle.std.specs.Prelude.{Bool, true, false, ◌≡◌, refl, List, ℕ, ◌
 use Rattle.std.proofs.Common.{inl, inr, ltb-true, ltb-false}
 use Rattle.lists.specs.Contradiction.{contradiction}
 use Rattle.frame_window.specs.Window.{at, beaten}
-use Rattle.frame_window.specs.Laws.{Earlier, InWindow, Wins, says-beaten}
+use Rattle.frame_window.specs.Laws.{Earlier, InWindow, Wins}
+use Rattle.frame_window.proofs.Laws.{says-beaten}
 
 module _ (samples : List ℕ) (width height row column : ℕ) (unbeaten : beaten samples width height row column ≡ false) where
   pub none-wins : (r c : ℕ) → InWindow width height row column r c → Wins samples width row column r c → ⊥

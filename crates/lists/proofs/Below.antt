@@ -12,7 +12,7 @@ use Rattle.std.proofs.lemmas.List.{get_or_at}
 use Rattle.lists.specs.Contradiction.{contradiction}
 use Rattle.lists.specs.Number.{one, number}
 use Rattle.lists.specs.Order.{pick, put, ordered}
-use Rattle.lists.specs.Laws.{put-length}
+use Rattle.lists.proofs.Laws.{put-length}
 
 module _ (test : ℕ → Bool) where
   -- where no key tells numbers apart, one that is put stands last

@@ -2,9 +2,10 @@
 use Rattle.std.specs.Prelude.{Bool, true, false, ◌≡◌, refl, ℕ, zero, suc, ◌+◌, ◌≤◌, ◌<◌}
 use Rattle.std.proofs.Common.{sym, ap, ◌∙◌, not-suc-le-zero, arith}
 use Rattle.std.proofs.Math.Decide.{dec_lt, ℕ_discrete}
-use Rattle.lists.specs.First.{first, first-is}
+use Rattle.lists.specs.First.{first}
+use Rattle.lists.proofs.First.{first-is}
 use Rattle.lists.specs.Number.{one, number}
-use Rattle.lists.specs.NumberLaws.{number-none}
+use Rattle.lists.proofs.NumberLaws.{number-none}
 
 -- where any is counted, the first is below the end
 pub first_counted : (n : ℕ) (test : ℕ → Bool) → 1 ≤ number n test → first test n < n
