@@ -30,10 +30,10 @@ use Rattle.camera_direction.specs.List.{all_within, list_ok}
 use Rattle.camera_direction.specs.Settings.{between, position_ok}
 use Rattle.camera_direction.specs.Position.{square, scaled_of, toward_of}
 use Rattle.camera_direction.specs.PositionLaws.{norm-by}
-use Rattle.camera_direction.specs.DirectionLaws.{in-range}
+use Rattle.camera_direction.proofs.DirectionLaws.{in-range}
 use Rattle.camera_lens.specs.Stated.{settings_lens}
 use Rattle.camera_direction.specs.camera.Camera.{direction_of}
-use Rattle.camera_direction.specs.camera.Laws.{settings-direction}
+use Rattle.camera_direction.proofs.camera.Laws.{settings-direction}
 use Rattle.words.specs.Number.{number_at}
 use Rattle.catalogue.specs.Format.{signed_of, identity_of, component_of, magnitude_of}
 use Rattle.catalogue.specs.Rule.{direction_ok, magnitude_ok, identity_rises, record_ok}

@@ -6,8 +6,5 @@ pub mod Settings
 pub mod Position
 pub mod Direction
 pub mod PositionLaws
-pub mod LengthLaws
-pub mod MovedLaws
 pub mod SettingsLaws
-pub mod DirectionLaws
 pub mod camera

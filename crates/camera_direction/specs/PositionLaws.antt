@@ -33,18 +33,6 @@ module _ (x y f : ℤ) where
 
 -- ---- a direction's numbers
 
-scaled-within : (z : ℤ) (n : ℕ) → 256 * nat_abs z ≤ n → Within 1000000000 (scaled_of z n)
-scaled-within z n h = record { within = rw (abs-quot, abs-mul) (div-le_of_le-mul n (omega arith)) }
-
-pub toward-within : (x y f : ℤ) → Within3 1000000000 (toward_of x y f)
-unfolding toward_of
-toward-within x y f =
-    record {
-      x = scaled-within x (norm_of x y f) (covers-x x y f);
-      y = scaled-within y (norm_of x y f) (covers-y x y f);
-      z = scaled-within f (norm_of x y f) (covers-f x y f);
-    }
-
 -- ---- N fits
 
 square_le : {a b : ℕ} → a ≤ b → a * a ≤ b * b

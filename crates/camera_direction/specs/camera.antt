@@ -1,4 +1,3 @@
 -- The definitions that the contract of `camera_direction::camera` cites, and their laws.
 pub mod Camera
 pub mod Laws
-pub mod LengthLaws

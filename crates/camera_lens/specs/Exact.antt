@@ -14,26 +14,6 @@ use Rattle.floats.specs.Scaled.{scaled_exact}
 use Rattle.camera_lens.specs.Lens.{in_range}
 use Rattle.camera_lens.specs.Range.{Between, between}
 
-none : (n d : ℕ) → 0 < d → n ≡ 0 → 16384 * d ≤ 256 * n → ⊥
-none n d p e k = omega arith
-
-product : (q : Float) → T (fits binary64 q) → HasValue q false (num q) (den q) → Between (num q) (den q)
-    → HasValue (mul binary64 q (fin false 1 (pos 8))) false (256 * num q) (den q)
-unfolding mul
-product nan t v b = absurd v
-product (inf s) t v b = absurd v
-product (fin true m e) t v b = absurd (true≢false v.0)
-product (fin false zero e) t v b = absurd (none (0 * up e) (down e) (down_pos e) (zero-mul (up e)) b.least)
-product (fin false (suc m) e) t v b =
-    let n = suc m * up e in
-    let small : n * 2 ^ 8 < 2 ^ 1024 * down e = lt_of_lt_of_le (subst (λ (x : ℕ). x < 4194305 * down e) (mul_comm 256 n) b.below)
-    (mul-le-mul_right (down e) (lit≤ tt)) in
-    subst (λ (x : ℕ). HasValue (round binary64 false (n * 256) x) false (256 * n) (down e)) (sym (mul-one (down e)))
-    (subst (λ (x : ℕ). HasValue (round binary64 false (n * 256) (down e)) false x (down e)) (mul_comm n 256) (scaled_exact binary64 false false m e 8 t small))
-
-pub times-256 : (q : Float) → T (fits binary64 q) → in_range q ≡ true → HasValue (mul binary64 q (fin false 1 (pos 8))) false (256 * num q) (den q)
-times-256 q t h = let b = between q h in product q t b.0 b.1
-
 -- ---- the whole part of a float x that is a / c, below 4194305
 
 module _ (a c : ℕ) (p : 0 < c) (h : a < 4194305 * c) where

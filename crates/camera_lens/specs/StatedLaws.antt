@@ -14,7 +14,7 @@ use Rattle.camera_lens.specs.declared.Focal.TheVariants.{Whole}
 use Rattle.camera_lens.specs.Lens.{lens_ok, focal_number, focal_of, out_of_range}
 use Rattle.camera_lens.specs.Stated.{settings_lens, none, stated_lens}
 use Rattle.camera_lens.specs.Range.{range-of, whole-of}
-use Rattle.camera_lens.specs.Laws.{pixels-ok, lens-in, lens-out}
+use Rattle.camera_lens.specs.Laws.{lens-in, lens-out}
 use Rattle.camera_lens.specs.RefusedLaws.{zeros, pixels-not-above}
 
 -- ---- the settings file
@@ -26,45 +26,12 @@ exact n h =
     (lt_of_lt_of_le (mul-lt-mul_of_pos_right h (lit< tt)) (lit≤ tt))
     (sym (mul_assoc n (2 ^ 1066) 256))
 
-abbrev pixels : ℕ → Float
+abbrev pub pixels : ℕ → Float
 pixels n = div binary64 (of_int binary64 (pos n)) (of_int binary64 (pos 256))
 
 -- so F over 256 loses nothing
 pub settings-exact : (n : ℕ) → n < 2 ^ 53 → HasValue (pixels n) false n 256
 settings-exact n h = subst (λ (x : Float). HasValue x false n 256) (sym (whole-quotient (pos n) 256 (le_of_lt h) (lit≤ tt) (lit< tt))) (exact n h)
-
-module _ (n : ℕ) (h : n < 2 ^ 53) where
-  ok-is : lens_ok (settings_lens n) ≡ (nat_le (16384 * 256) (256 * n) && nat_lt (256 * n) (4194305 * 256))
-  unfolding settings_lens
-  ok-is = pixels-ok (pixels n) ∙ range-of (pixels n) n 256 (settings-exact n h) (lit< tt)
-
-  -- F comes back, in range or not
-  pub settings-whole : focal_number (settings_lens n) ≡ n
-  unfolding settings_lens focal_number
-  settings-whole =
-      whole-of (pixels n) n 256 (settings-exact n h) (lit< tt)
-      ∙ ap (λ (x : ℕ). x / 256) (mul_comm 256 n)
-      ∙ mul-div_cancel n (lit< tt)
-
--- every F from 16,384 to 4,194,304 is taken, and comes back
-module _ (n : ℕ) (a : 16384 ≤ n) (b : n ≤ 4194304) where
-  small : n < 2 ^ 53
-  small = lt_of_le_of_lt b (lit< tt)
-
-  pub settings-ok : lens_ok (settings_lens n) ≡ true
-  settings-ok = ok-is n small ∙ (λ i. le-leb (16384 * 256) (256 * n) (omega arith) i && lt-ltb (256 * n) (4194305 * 256) (omega arith) i)
-
-  pub settings-number : focal_number (settings_lens n) ≡ n
-  settings-number = settings-whole n small
-
-  pub settings-back : focal_of (settings_lens n) ≡ Whole (pos n)
-  settings-back = lens-in (settings_lens n) settings-ok ∙ ap (λ (k : ℕ). Whole (pos k)) settings-number
-
--- any other is refused
-pub settings-refused : (n : ℕ) → n < 2 ^ 53 → (n < 16384) ⊎ (4194304 < n) → focal_of (settings_lens n) ≡ out_of_range
-settings-refused n h (inl a) = lens-out (settings_lens n) (ok-is n h ∙ (λ i. lt-leb (16384 * 256) (256 * n) (omega arith) i && nat_lt (256 * n) (4194305 * 256)))
-settings-refused n h (inr b) = lens-out (settings_lens n) (ok-is n h ∙ ap (λ (t : Bool). nat_le (16384 * 256) (256 * n) && t)
-    (le-ltb (256 * n) (4194305 * 256) (omega arith)) ∙ and-false (nat_le (16384 * 256) (256 * n)))
 
 -- ---- a kind and two numbers
 

@@ -15,7 +15,7 @@ use Rattle.chain.specs.declared.Settings.{Settings}
 use Rattle.camera_direction.specs.declared.Direction.{Direction}
 use Rattle.camera_direction.specs.declared.Direction.TheVariants.{Refused, Found}
 use Rattle.camera_direction.specs.camera.Camera.{direction_of}
-use Rattle.camera_direction.specs.camera.Laws.{found_within}
+use Rattle.camera_direction.proofs.camera.Laws.{found_within}
 use Rattle.chain.specs.Sight.{vector_of, sight_of, numbers_of, directions_of, nowhere}
 
 module _ (s : Settings) where

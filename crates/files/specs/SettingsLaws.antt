@@ -5,7 +5,7 @@ use Rattle.words.specs.Number.{number_at}
 use Rattle.words.specs.NumberLaws.{number-most}
 use Rattle.camera_lens.specs.declared.Focal.TheVariants.{Whole}
 use Rattle.camera_lens.specs.Lens.{focal_of, out_of_range}
-use Rattle.camera_lens.specs.StatedLaws.{settings-whole, settings-back, settings-refused}
+use Rattle.camera_lens.proofs.StatedLaws.{settings-whole, settings-back, settings-refused}
 use Rattle.files.specs.declared.Reading.TheVariants.{Refused, Read}
 use Rattle.files.specs.Settings.{settings_of, reading_answer, answer_for}
 

@@ -20,7 +20,7 @@ use Rattle.lists.specs.Laws.{count, InOrder}
 use Rattle.lists.proofs.Laws.{put-length, each-once, none-beyond, in_order}
 use Rattle.frame_centroid.specs.declared.Centroid.{Centroid}
 use Rattle.frame_verdict.specs.Verdict.{verdict_of}
-use Rattle.frame_verdict.specs.Laws.{measured-range}
+use Rattle.frame_verdict.proofs.Laws.{measured-range}
 use Rattle.frame_verdict.specs.declared.Kind.{Kind}
 use Rattle.frame_verdict.specs.declared.Kind.TheVariants.{Dark, Beaten, Edge, Lone, Measured}
 use Rattle.frame_list.specs.input.Input.{frame_rows, pixel_rows}

@@ -23,8 +23,8 @@ use Rattle.camera_direction.specs.Settings.{Between, position_ok}
 use Rattle.camera_direction.specs.SettingsLaws.{Position, ok-position}
 use Rattle.camera_lens.specs.Lens.{lens_ok}
 use Rattle.camera_direction.specs.camera.Camera.{direction_of}
-use Rattle.camera_direction.specs.camera.Laws.{found}
-use Rattle.camera_direction.specs.camera.LengthLaws.{found-unit}
+use Rattle.camera_direction.proofs.camera.Laws.{found}
+use Rattle.camera_direction.proofs.camera.LengthLaws.{found-unit}
 use Rattle.catalogue.specs.Check as catalogue
 use Rattle.catalogue.specs.Stars.{stars_of}
 use Rattle.search.specs.declared.Identification.{Identification}

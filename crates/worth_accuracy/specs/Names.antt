@@ -19,8 +19,8 @@ use Rattle.camera_direction.specs.ListLaws.{directions_in}
 use Rattle.camera_direction.specs.Position.{toward_of}
 use Rattle.camera_direction.specs.SettingsLaws.{Position}
 use Rattle.camera_lens.specs.Lens.{lens_ok, focal_number}
-use Rattle.camera_lens.specs.Laws.{focal-range}
-use Rattle.camera_direction.specs.camera.Laws.{found}
+use Rattle.camera_lens.proofs.Laws.{focal-range}
+use Rattle.camera_direction.proofs.camera.Laws.{found}
 use Rattle.catalogue.specs.Format.{records_in}
 use Rattle.catalogue.specs.Stars.{stars_of}
 use Rattle.search_theory.specs.Order.{at}

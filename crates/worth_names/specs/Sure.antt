@@ -10,7 +10,7 @@ use Rattle.vectors.specs.Vectors.{Within3}
 use Rattle.vectors.specs.Symbols.{less_of}
 use Rattle.camera_direction.specs.ListLaws.{directions_in}
 use Rattle.camera_direction.specs.Position.{toward_of}
-use Rattle.camera_direction.specs.MovedLaws.{toward-moved}
+use Rattle.camera_direction.proofs.MovedLaws.{toward-moved}
 use Rattle.catalogue.specs.Format.{records_in}
 use Rattle.catalogue.specs.Stars.{stars_of}
 use Rattle.search_theory.specs.Order.{at}

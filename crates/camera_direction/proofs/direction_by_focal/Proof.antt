@@ -12,7 +12,7 @@ use Rattle.camera_direction.specs.SettingsLaws.{Position, ok-position, between-w
 use Rattle.camera_direction.specs.Position.{toward_of}
 use Rattle.refusal.specs.AnswerLaws.{in-terms}
 use Rattle.camera_direction.specs.Direction.{direction_of, direction_answer, answer_for}
-use Rattle.camera_direction.specs.DirectionLaws.{centre-out, position-out, in-range, answers}
+use Rattle.camera_direction.proofs.DirectionLaws.{centre-out, position-out, in-range, answers}
 use borrow.Author.Rules.{rules}
 use Rattle.camera_direction.proofs.direction_by_focal.Statement.{statement}
 use Rattle.camera_direction.proofs.direction_by_focal.Tie as tie

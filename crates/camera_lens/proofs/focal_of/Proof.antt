@@ -7,7 +7,8 @@ use Rattle.camera_lens.specs.declared.Focal.{Focal}
 use Rattle.camera_lens.specs.declared.Focal.TheVariants.{Whole}
 use Rattle.refusal.specs.AnswerLaws.{in-terms}
 use Rattle.camera_lens.specs.Lens.{in_range, whole_of, focal_number, focal_of, focal_answer, answer_for}
-use Rattle.camera_lens.specs.Laws.{answers, lens-in, lens-out, pixels-in}
+use Rattle.camera_lens.specs.Laws.{answers, lens-in, lens-out}
+use Rattle.camera_lens.proofs.Laws.{pixels-in}
 use Rattle.camera_lens.proofs.focal_of.Statement.{statement}
 use Rattle.camera_lens.proofs.focal_of.Tie as tie
 

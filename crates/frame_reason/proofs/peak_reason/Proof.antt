@@ -15,12 +15,12 @@ use Rattle.frame_verdict.specs.declared.Kind.{Kind}
 use Rattle.frame_verdict.specs.declared.Kind.TheVariants as kinds
 use Rattle.frame_verdict.specs.Verdict.{edge, peak_kind}
 use Rattle.frame_verdict.specs.Inside.{inside, amid}
-use Rattle.frame_verdict.specs.Laws.{peak-lone}
+use Rattle.frame_verdict.proofs.Laws.{peak-lone}
 use Rattle.frame_reason.specs.declared.Reason.{Reason}
 use Rattle.frame_reason.specs.declared.Reason.TheVariants.{Dark, Beaten, Edge, Lone, Measured}
 use Rattle.frame_reason.specs.Side.{first_side}
 use Rattle.frame_reason.specs.Reason.{kind_in, peak_reason}
-use Rattle.frame_reason.specs.Laws.{peak-kind-is}
+use Rattle.frame_reason.proofs.Laws.{peak-kind-is}
 use Rattle.frame_reason.proofs.peak_reason.Statement.{statement}
 use Rattle.frame_reason.proofs.peak_reason.Tie as tie
 

@@ -6,7 +6,7 @@ use native.Mathlib.Omega.{arith}
 use Rattle.frame_centroid.specs.Signed.{from-moments}
 use Rattle.frame_verdict.specs.Verdict.{peak_kind}
 use Rattle.frame_verdict.specs.Inside.{inside, amid}
-use Rattle.frame_verdict.specs.Bright.{bright}
+use Rattle.frame_verdict.proofs.Bright.{bright}
 use Rattle.frame_verdict.proofs.peak_kind.Statement.{statement}
 use Rattle.frame_verdict.proofs.peak_kind.Tie as tie
 

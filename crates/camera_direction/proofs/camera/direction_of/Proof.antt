@@ -16,7 +16,8 @@ use Rattle.camera_direction.specs.Direction.{direction_answer}
 use Rattle.camera_lens.specs.Lens.{lens_ok, focal_number}
 use Rattle.camera_lens.specs.Laws.{whole-given, refused-given}
 use Rattle.camera_direction.specs.camera.Camera.{direction_of, answer_for}
-use Rattle.camera_direction.specs.camera.Laws.{focal-between, lens-out, by_whole, answers}
+use Rattle.camera_direction.specs.camera.Laws.{focal-between}
+use Rattle.camera_direction.proofs.camera.Laws.{lens-out, by_whole, answers}
 use Rattle.camera_direction.proofs.camera.direction_of.Statement.{statement}
 use Rattle.camera_direction.proofs.camera.direction_of.Tie as tie
 

@@ -6,8 +6,9 @@ use lib.Ieee.Positive.{num, den, den_pos}
 use mir.ValLaws.{to_z-of_z}
 use Rattle.camera_lens.specs.Lens.{whole_of}
 use Rattle.camera_lens.specs.Range.{between, whole-of}
-use Rattle.camera_lens.specs.Exact.{times-256, cuttable, cut}
-use Rattle.camera_lens.specs.Laws.{whole-range}
+use Rattle.camera_lens.specs.Exact.{cuttable, cut}
+use Rattle.camera_lens.proofs.Exact.{times-256}
+use Rattle.camera_lens.proofs.Laws.{whole-range}
 use Rattle.camera_lens.proofs.range.whole.Statement.{statement}
 use Rattle.camera_lens.proofs.range.whole.Tie as tie
 

@@ -11,13 +11,13 @@ use Rattle.camera_direction.specs.Settings.{position_ok}
 use Rattle.camera_direction.specs.Position.{toward_of}
 use Rattle.camera_direction.specs.Direction as whole
 use Rattle.camera_direction.specs.Direction.{out_of_range}
-use Rattle.camera_direction.specs.DirectionLaws.{centre-out, position-out, in-range}
-use Rattle.camera_direction.specs.LengthLaws.{toward-unit-by}
+use Rattle.camera_direction.proofs.DirectionLaws.{centre-out, position-out, in-range}
+use Rattle.camera_direction.proofs.LengthLaws.{toward-unit-by}
 use Rattle.camera_lens.specs.declared.Lens.{Lens}
 use Rattle.camera_lens.specs.Lens.{lens_ok, focal_number}
-use Rattle.camera_lens.specs.Laws.{focal-range}
+use Rattle.camera_lens.proofs.Laws.{focal-range}
 use Rattle.camera_direction.specs.camera.Camera.{direction_of, lens_out}
-use Rattle.camera_direction.specs.camera.Laws.{lens-out, by_whole}
+use Rattle.camera_direction.proofs.camera.Laws.{lens-out, by_whole}
 
 module _ (cx cy : ℤ) (l : Lens) (x y : ℤ) (v : Vec3) (h : direction_of cx cy l x y ≡ Found v) where
   abbrev f : ℕ

@@ -19,12 +19,10 @@ use Rattle.camera_direction.specs.declared.Direction.TheVariants.{Refused, Found
 use Rattle.camera_direction.specs.Settings.{position_ok}
 use Rattle.camera_direction.specs.SettingsLaws.{Position, ok-position, position-ok}
 use Rattle.camera_direction.specs.Position.{toward_of}
-use Rattle.camera_direction.specs.PositionLaws.{toward-within}
+use Rattle.camera_direction.proofs.PositionLaws.{toward-within}
 use Rattle.camera_direction.specs.Direction.{refusals_of, direction_of, out_of_range, direction_answer, answer_for}
 
 module _ (cx cy f x y : ℤ) where
-  -- ---- one test at a time, as the code meets them
-
   given : {o : Outcome} → first_applying (refusals_of cx cy x y) ≡ o → direction_of cx cy f x y ≡ answered Refused (Found (toward_of (x -ℤ cx) (y -ℤ cy) f)) o
   unfolding direction_of
   given e = ap (λ (o : Outcome). answered Refused (Found (toward_of (x -ℤ cx) (y -ℤ cy) f)) o) e
@@ -43,13 +41,9 @@ module _ (cx cy f x y : ℤ) where
   unfolding refusals_of Silent
   in-range e g = given (silent-accepted _ (rw (e, g), tt))
 
-  -- ---- in document 01's terms
-
   pub answers : direction_answer (direction_of cx cy f x y) ≡ answer_for cx cy f x y
   unfolding direction_of refusals_of answer_by
   answers = answered-by Refused (Found (toward_of (x -ℤ cx) (y -ℤ cy) f)) direction_answer _ (λ r. refl) refl (refusals_of cx cy x y)
-
-  -- ---- in plain terms
 
   pub found : Position cx cy → Position x y → direction_of cx cy f x y ≡ Found (toward_of (x -ℤ cx) (y -ℤ cy) f)
   found s p = in-range (position-ok cx cy s) (position-ok x y p)
