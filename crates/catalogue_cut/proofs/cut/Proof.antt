@@ -12,7 +12,7 @@ use Rattle.catalogue.specs.CheckLaws.{checked_refused, checked-valid}
 use Rattle.catalogue.specs.Valid.{Valid}
 use Rattle.refusal.specs.declared.Counted.{Counted}
 use Rattle.catalogue_cut.specs.Cut.{shortened_of, buffer_after, shortened_from, buffer_from, answer_for}
-use Rattle.catalogue_cut.specs.CutSteps.{answers, catalogue-refused, catalogue-kept, valid-shortened, valid-buffer}
+use Rattle.catalogue_cut.proofs.CutSteps.{answers, catalogue-refused, catalogue-kept, valid-shortened, valid-buffer}
 use Rattle.catalogue_cut.proofs.cut.Statement.{statement}
 use Rattle.catalogue_cut.proofs.cut.Tie as tie
 

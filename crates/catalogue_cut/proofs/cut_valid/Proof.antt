@@ -9,10 +9,10 @@ use mir.Syntax.{w32, w64}
 use mir.ValLaws.{to_z-of_z}
 use Rattle.catalogue.specs.Format.{record_size}
 use Rattle.catalogue_cut.specs.Flight.{kept_in, freed}
-use Rattle.catalogue_cut.specs.Front.{flight-length, flight-most}
+use Rattle.catalogue_cut.proofs.Front.{flight-length, flight-most}
 use Rattle.refusal.specs.declared.Counted.TheVariants.{Count}
 use Rattle.catalogue_cut.specs.marks.Judge.{Settled, settled-as}
-use Rattle.catalogue_cut.specs.CutSteps.{marked-kept, moved, moved-is, moved_none, moved-filled, none_from, none-buffer, some-from, some-buffer}
+use Rattle.catalogue_cut.proofs.CutSteps.{marked-kept, moved, moved-is, moved_none, moved-filled, none_from, none-buffer, some-from, some-buffer}
 use Rattle.catalogue_cut.proofs.cut_valid.Statement.{statement}
 use Rattle.catalogue_cut.proofs.cut_valid.Tie as tie
 

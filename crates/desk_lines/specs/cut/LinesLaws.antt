@@ -6,7 +6,7 @@ use Rattle.refusal.specs.Table.{first_applying}
 use Rattle.refusal.specs.CountedLaws.{count-accepted}
 use Rattle.catalogue.specs.Format.{record_size}
 use Rattle.catalogue_cut.specs.Flight.{kept_in}
-use Rattle.catalogue_cut.specs.Front.{flight-length, flight-most}
+use Rattle.catalogue_cut.proofs.Front.{flight-length, flight-most}
 use Rattle.catalogue_cut.specs.Cut.{refusals_of, shortened_of}
 
 module _ (bytes : List ℕ) (limit closeness : ℤ) (n : ℕ) (e : shortened_of bytes limit closeness ≡ Count n) where

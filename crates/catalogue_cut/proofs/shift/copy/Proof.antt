@@ -7,7 +7,8 @@ use lib.ListN.{length, get_or, set, length-set}
 use lib.Seq.{paste-zero}
 use Rattle.catalogue.specs.Format.{record_size, records_in}
 use Rattle.catalogue_cut.specs.Flight.{record_at}
-use Rattle.catalogue_cut.specs.Shifted.{copied, copied_next, copied_all}
+use Rattle.catalogue_cut.specs.Shifted.{copied}
+use Rattle.catalogue_cut.proofs.Shifted.{copied_next, copied_all}
 use Rattle.catalogue_cut.proofs.shift.copy.Statement.{statement}
 use Rattle.catalogue_cut.proofs.shift.copy.Tie as tie
 

@@ -8,7 +8,8 @@ use lib.ListN.{length}
 use Rattle.words.specs.Front.{at_front}
 use Rattle.catalogue.specs.Format.{records_in}
 use Rattle.catalogue_cut.specs.Flight.{records_at}
-use Rattle.catalogue_cut.specs.Shifted.{marked, Moved, moved-start, moved-next}
+use Rattle.catalogue_cut.specs.Shifted.{marked, Moved}
+use Rattle.catalogue_cut.proofs.Shifted.{moved-start, moved-next}
 use Rattle.catalogue_cut.proofs.shift.forward.Statement.{statement}
 use Rattle.catalogue_cut.proofs.shift.forward.Tie as tie
 

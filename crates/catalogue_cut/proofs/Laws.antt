@@ -13,9 +13,11 @@ use Rattle.catalogue.specs.Format.{record_size, records_in, signed_of, identity_
 use Rattle.catalogue.specs.Rule.{largest, square_sum, slack, squares, brightest, faintest}
 use Rattle.catalogue.specs.Valid.{StarRule, Valid}
 use Rattle.catalogue_cut.specs.Flight.{is_kept, product_of, kept_in, flight_of}
-use Rattle.catalogue_cut.specs.Kept.{Crowds, Stays, kept-stays, stays-kept}
+use Rattle.catalogue_cut.specs.Kept.{Crowds, Stays}
+use Rattle.catalogue_cut.proofs.Kept.{kept-stays, stays-kept}
 use Rattle.catalogue_cut.specs.Pairs.{product-comm}
-use Rattle.catalogue_cut.specs.Front.{kept, kept-passing, kept-number, kept-inside, flight-length, flight-byte}
+use Rattle.catalogue_cut.specs.Front.{kept}
+use Rattle.catalogue_cut.proofs.Front.{kept-passing, kept-number, kept-inside, flight-length, flight-byte}
 
 module _ (bytes : List ℕ) (limit closeness : ℤ) where
   -- ---- who is kept

@@ -20,7 +20,7 @@ use Rattle.catalogue.specs.CheckLaws.{valid-accepted}
 use Rattle.catalogue.specs.Format.{record_size, records_in}
 use Rattle.catalogue.specs.Valid.{Valid}
 use Rattle.catalogue_cut.specs.Flight.{is_kept, kept_in, records_at, flight_of, freed, cut_of}
-use Rattle.catalogue_cut.specs.Front.{flight-length, flight-most}
+use Rattle.catalogue_cut.proofs.Front.{flight-length, flight-most}
 use Rattle.refusal.specs.declared.Counted.TheVariants.{Refused, Count}
 use Rattle.catalogue_cut.specs.marks.Judge.{Settled}
 use Rattle.catalogue_cut.specs.Shifted.{marked}
