@@ -1,0 +1,13 @@
+// The root for C and Rust: the benchmark times it by itself.
+#![tactic(auto)]
+
+ghost use Rattle.std.specs.Prelude.{◌≡◌};
+ghost use Rattle.numbers.specs.Root.{root as root_of};
+
+// The root for C and Rust: the benchmark times it by itself.
+#[unsafe(no_mangle)]
+pub extern "C" fn mnemathor_root(n: u64) -> u64
+    ensures { result ≡ root_of n }
+{
+    numbers::mnemathor_root(n)
+}
