@@ -8,7 +8,6 @@ use Rattle.refusal.specs.declared.Outcome.TheVariants.{Accepted}
 use Rattle.refusal.specs.declared.Counted.TheVariants.{Refused, Count}
 use Rattle.refusal.specs.Table.{Row, first_applying}
 use Rattle.refusal.specs.AnswerLaws.{answer_by}
-use Rattle.refusal.proofs.AnswerLaws.{answered-by}
 use Rattle.refusal.specs.Counted.{counted_of, count_answer}
 
 -- a count is given where nothing is refused
