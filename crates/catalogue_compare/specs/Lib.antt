@@ -5,7 +5,6 @@ pub mod StepLaws
 pub mod Walk
 pub mod Written
 pub mod Compare
-pub mod CompareSteps
 pub mod Changes
 pub mod DifferLaws
 pub mod Places
@@ -14,4 +13,3 @@ pub mod Encoded
 pub mod Read
 pub mod Fields
 pub mod Laws
-pub mod Equal

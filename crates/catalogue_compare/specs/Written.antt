@@ -15,7 +15,7 @@ use Rattle.catalogue_compare.specs.Changes.{kind_of, listed, record_of, encoded,
 use Rattle.catalogue_compare.specs.Places.{Rises}
 use Rattle.catalogue_compare.specs.Encoded.{encoded-length, encoded-append}
 use Rattle.catalogue_compare.specs.Step.{step_of}
-use Rattle.catalogue_compare.specs.Walk.{told, Walked, so_far, walk_start, so-far-none, so-far-part, walk-next, walk-kind, so-far-next, so-far-all}
+use Rattle.catalogue_compare.specs.Walk.{told, Walked, so_far, walk_start, so-far-none}
 
 -- a record written in two parts
 pub parts-written : (room : List ℕ) (at identity kind : ℕ) → kind < 4294967296
@@ -36,14 +36,6 @@ bytes-none s e = rw (eq-eqb s.kind 0 e)
 pub bytes_one : (s : Step) → (s.kind ≡ 0 → ⊥) → told_bytes s ≡ record_of s.identity s.kind
 bytes_one s d = rw (ne_eqb s.kind 0 d)
 
-told-bytes : (kind : ℕ → ℕ) (s : Step) → s.kind ≡ kind s.identity → told_bytes s ≡ encoded kind (told s)
-unfolding encoded
-told-bytes kind s e = by (not (eqb s.kind 0))
-  where
-    by : (t : Bool) → pick t (record_of s.identity s.kind) [] ≡ encoded kind (pick t (s.identity ∷ []) [])
-    by true = ap (record_of s.identity) e ∙ sym (append-nil (record_of s.identity (kind s.identity)))
-    by false = refl
-
 -- ---- the walk that writes
 
 -- the list so far stands at the front of the room
@@ -63,41 +55,3 @@ module _ (first second before : List ℕ) where
         front =
             sym (ap (λ (xs : List ℕ). at_front (encoded (kind_of first second) xs) before) e);
       }
-
-module _ {first second : List ℕ} (r : Rises first) (q : Rises second) {i j found : ℕ} {before room : List ℕ} (w : Written first second i j found before room)
-  where
-    module _
-        (h : i + j < records_in first + records_in second) (s : Step) (e : s ≡ step_of first second i j)
-        (long : 8 * length (listed first second) ≤ length before) where
-      -- there is room for what the step adds
-      pub written-room : 8 * (found + length (told s)) ≤ length before
-      written-room =
-          omega (
-            arith,
-            w.is,
-            ap length (so-far-next r q w.walked h s e),
-            length-append (so_far w.walked) (told s),
-            so-far-part r q (walk-next r q w.walked h s e),
-          )
-
-      pub written_next : {next : ℕ} {after : List ℕ} → next ≡ found + length (told s) → after ≡ sets room (8 * found) (told_bytes s)
-          → Written first second s.first s.second next before after
-      written_next {next} {after} a b =
-          let kind = kind_of first second in
-          let t = told-bytes kind s (walk-kind r q w.walked h s e) in
-          let old = encoded kind (so_far w.walked) in
-          let n = so-far-next r q w.walked h s e in
-          let l : 8 * found ≡ length old = omega (arith, w.is, encoded-length kind (so_far w.walked)) in
-          record {
-            walked = walk-next r q w.walked h s e;
-            is = omega (arith, w.is, ap length n, length-append (so_far w.walked) (told s));
-            front = b
-                ∙ (λ k. sets (w.front k) (l k) (t k))
-                ∙ front-more old (encoded kind (told s)) before (omega (arith, written-room, encoded-length kind (told s)))
-                ∙ sym (ap (λ (xs : List ℕ). at_front xs before) (ap (encoded kind) n ∙ encoded-append kind (so_far w.walked) (told s)));
-          }
-
-    -- at the end it is the whole list
-    pub written_all : records_in first + records_in second ≤ i + j → room ≡ at_front (changes_of first second) before
-    unfolding changes_of
-    written_all h = w.front ∙ ap (λ (xs : List ℕ). at_front (encoded (kind_of first second) xs) before) (so-far-all r q w.walked h)

@@ -9,4 +9,3 @@ pub mod AfterLaws
 pub mod ChainLaws
 pub mod OrderLaws
 pub mod StartLaws
-pub mod FrameLaws

@@ -34,7 +34,7 @@ use Rattle.guider_rule.specs.Guider.{guide_at, star_at, live, apart, missed, sha
 use Rattle.guider_rule.specs.Rule.{on_frame, guider_ok, list_ok}
 use Rattle.guider_rule.specs.Calls.{refused_with, seen_by, guided_of}
 use Rattle.guider_rule.specs.AfterLaws.{is_accepted}
-use Rattle.guider_rule.specs.FrameLaws.{own-frame}
+use Rattle.guider_rule.proofs.FrameLaws.{own-frame}
 use Rattle.numbers.specs.TwosComplement.{signed_of}
 use Rattle.c_numbers.specs.Stars.{joined}
 use Rattle.c_interface.specs.frame.Frame.{listing_numbers}

@@ -21,10 +21,12 @@ use Rattle.guider_rule.specs.declared.Guider.{Guider}
 use Rattle.guider_rule.specs.declared.Guided.{Guided}
 use Rattle.guider_rule.specs.Guider.{no_guide, guide_at, guider_after}
 use Rattle.guider_rule.specs.Rule.{guider_ok, list_ok}
-use Rattle.guider_rule.specs.RuleLaws.{GuiderRule, guider-keeps}
+use Rattle.guider_rule.specs.RuleLaws.{GuiderRule}
+use Rattle.guider_rule.proofs.RuleLaws.{guider-keeps}
 use Rattle.guider_rule.specs.Calls.{no_sighting, fresh_guide, fresh_of, started_of, refused_with, guided_of}
-use Rattle.guider_rule.specs.FollowLaws.{follower, misser, stayer, fates}
-use Rattle.guider_rule.specs.AfterLaws.{Whole, guide-after, guide-behind, handed, rule-kept, whole-kept, count_kept}
+use Rattle.guider_rule.proofs.FollowLaws.{follower, misser, stayer, fates}
+use Rattle.guider_rule.specs.AfterLaws.{Whole}
+use Rattle.guider_rule.proofs.AfterLaws.{guide-after, guide-behind, handed, rule-kept, whole-kept, count_kept}
 use Rattle.guider_rule.specs.ChainLaws.{guider_at}
 use Rattle.c_interface.specs.guide.Rooms.{
   unsigned_of,

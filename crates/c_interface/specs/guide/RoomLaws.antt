@@ -7,7 +7,8 @@ use Rattle.guider_rule.specs.declared.Sighting.{Sighting}
 use Rattle.guider_rule.specs.declared.Guider.{Guider}
 use Rattle.guider_rule.specs.Guider.{guide_at}
 use Rattle.guider_rule.specs.Rule.{farthest, guider_ok}
-use Rattle.guider_rule.specs.RuleLaws.{OnFrame, guider-keeps}
+use Rattle.guider_rule.specs.RuleLaws.{OnFrame}
+use Rattle.guider_rule.proofs.RuleLaws.{guider-keeps}
 use Rattle.c_interface.specs.guide.Rooms.{unsigned_of, number_in, largest_identity, sighting_in, guide_in, guider_in, with_guides, with_guider}
 
 pub length-guides : (guides : List Guide) (n : ℕ) (room : List ℤ) → length (with_guides guides n room) ≡ length room

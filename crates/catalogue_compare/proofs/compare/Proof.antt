@@ -14,7 +14,7 @@ use Rattle.refusal.specs.declared.Counted.TheVariants.{Count}
 use Rattle.catalogue_compare.specs.Changes.{listed, changes_of}
 use Rattle.words.specs.Front.{at_front}
 use Rattle.catalogue_compare.specs.Compare.{catalogues_refused, refusals_of, compared_of, room_after, answer_for}
-use Rattle.catalogue_compare.specs.CompareSteps.{both-valid, compared, answers, refused, too_short, long-enough, room_after_lem}
+use Rattle.catalogue_compare.proofs.CompareSteps.{both-valid, compared, answers, refused, too_short, long-enough, room_after_lem}
 use borrow.Author.Rules.{rules}
 use Rattle.catalogue_compare.proofs.compare.Statement.{statement}
 use Rattle.catalogue_compare.proofs.compare.Tie as tie

@@ -2,7 +2,7 @@
 use mathlib.Core.Path.{sym, ◌∙◌}
 use Rattle.catalogue.specs.Valid.{Valid}
 use Rattle.catalogue.specs.CheckLaws.{checked_refused, checked-valid, valid-accepted}
-use Rattle.catalogue_compare.specs.CompareSteps.{first-refused, then-second}
+use Rattle.catalogue_compare.proofs.CompareSteps.{first-refused, then-second}
 use borrow.Author.Rules.{rules}
 use Rattle.catalogue_compare.proofs.judge.Statement.{statement}
 use Rattle.catalogue_compare.proofs.judge.Tie as tie

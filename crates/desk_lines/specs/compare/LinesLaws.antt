@@ -9,7 +9,7 @@ use Rattle.catalogue_compare.specs.Read.{identity_at, kind_at}
 use Rattle.refusal.specs.declared.Counted.{Counted}
 use Rattle.refusal.specs.declared.Counted.TheVariants.{Refused, Count}
 use Rattle.catalogue_compare.specs.Compare.{compared_of, room_after}
-use Rattle.catalogue_compare.specs.CompareSteps.{records-are, records-fit, records-there}
+use Rattle.catalogue_compare.proofs.CompareSteps.{records-are, records-fit, records-there}
 use Rattle.text.specs.Decimal.{labelled}
 use Rattle.text.specs.Refused.{refusal_line}
 use Rattle.text.specs.Written.{Wrote}

@@ -1,7 +1,7 @@
 -- `guider::followed` meets its contract. Assumes nothing.
 use borrow.Author.Rules.{rules}
 use mathlib.Core.Path.{sym, ap, ◌∙◌}
-use Rattle.guider_rule.specs.RuleLaws.{guider-keeps, list-keeps}
+use Rattle.guider_rule.proofs.RuleLaws.{guider-keeps, list-keeps}
 use Rattle.guider_rule.specs.Calls.{accepted}
 use Rattle.guider.proofs.followed.Statement.{statement}
 use Rattle.guider.proofs.followed.Tie as tie

@@ -10,7 +10,8 @@ use lib.Seq.{take_all}
 use Rattle.refusal.specs.Numbers as number
 use Rattle.refusal.specs.Table.{refusal_of}
 use Rattle.guider_rule.specs.declared.Guided.{Guided}
-use Rattle.guider_rule.specs.AfterLaws.{is_accepted, accepted-few}
+use Rattle.guider_rule.specs.AfterLaws.{is_accepted}
+use Rattle.guider_rule.proofs.AfterLaws.{accepted-few}
 use Rattle.c_interface.specs.guide.Rooms.{size, guider_in, listing_in}
 use Rattle.c_interface.specs.guide.Guider.{framed_in, framed_room, taken, frame_room, frame_outcome}
 use Rattle.c_interface.proofs.guide.put_frame.Statement.{statement}

@@ -6,8 +6,9 @@ use lib.ListN.{length}
 use lib.Seq.{length-sets}
 use Rattle.catalogue.specs.Format.{records_in}
 use Rattle.catalogue_compare.specs.Places.{Rises, valid-rises}
-use Rattle.catalogue_compare.specs.Walk.{walk-further}
-use Rattle.catalogue_compare.specs.Written.{told_bytes, Written, written_start, written-room, written_next, written_all}
+use Rattle.catalogue_compare.proofs.Walk.{walk-further}
+use Rattle.catalogue_compare.specs.Written.{told_bytes, Written, written_start}
+use Rattle.catalogue_compare.proofs.Written.{written-room, written_next, written_all}
 use borrow.Author.Rules.{rules}
 use Rattle.catalogue_compare.proofs.walk.write.Statement.{statement}
 use Rattle.catalogue_compare.proofs.walk.write.Tie as tie

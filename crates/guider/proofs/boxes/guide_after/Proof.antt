@@ -11,7 +11,7 @@ use Rattle.guider_rule.specs.declared.Guide.{Guide}
 use Rattle.guider_rule.specs.declared.Guider.{Guider}
 use Rattle.lists.specs.Number.{number}
 use Rattle.guider_rule.specs.Guider.{guide_at, inside, shared, star_in, follows, moved, missed, guide_after}
-use Rattle.guider_rule.specs.FollowLaws.{stayer}
+use Rattle.guider_rule.proofs.FollowLaws.{stayer}
 use Rattle.guider.specs.declared.boxes.Sight.{Sight}
 use Rattle.guider.specs.boxes.Sight.{Seen}
 use Rattle.guider.proofs.boxes.guide_after.Statement.{statement}

@@ -10,7 +10,7 @@ use Rattle.frame_list.specs.declared.Report.{Report}
 use Rattle.guider_rule.specs.declared.Guide.{Guide}
 use Rattle.guider_rule.specs.declared.Guider.{Guider}
 use Rattle.guider_rule.specs.Guider.{no_guide, guide_after, guides_after}
-use Rattle.guider_rule.specs.AfterLaws.{at-behind}
+use Rattle.guider_rule.proofs.AfterLaws.{at-behind}
 use Rattle.guider.proofs.boxes.guides_after.Statement.{statement}
 use Rattle.guider.proofs.boxes.guides_after.Tie as tie
 

@@ -8,9 +8,11 @@ use Rattle.frame_list.specs.Calls.{listing_of}
 use Rattle.frame_list.specs.ListingLaws.{Listed, listing-listed}
 use Rattle.guider_rule.specs.declared.Guider.{Guider}
 use Rattle.guider_rule.specs.Rule.{guider_ok}
-use Rattle.guider_rule.specs.RuleLaws.{ListRule, list-ok}
+use Rattle.guider_rule.specs.RuleLaws.{ListRule}
+use Rattle.guider_rule.proofs.RuleLaws.{list-ok}
 use Rattle.guider_rule.specs.Calls.{guided_of}
-use Rattle.guider_rule.specs.AfterLaws.{is_accepted, refused-where}
+use Rattle.guider_rule.specs.AfterLaws.{is_accepted}
+use Rattle.guider_rule.proofs.AfterLaws.{refused-where}
 
 module _ (samples : List ℕ) (width height threshold : ℕ) where
   pub own-list : ListRule (listing_of samples width height threshold).report

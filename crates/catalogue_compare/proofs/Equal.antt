@@ -16,9 +16,11 @@ use Rattle.catalogue.specs.Valid.{Valid}
 use Rattle.catalogue_compare.specs.Changes.{place_of, has, fields, field_of, differ, kind_of, listed, changes_of}
 use Rattle.catalogue_compare.specs.DifferLaws.{differ-none, differ_same}
 use Rattle.catalogue_compare.specs.Places.{Rises, valid-rises}
-use Rattle.catalogue_compare.specs.Kinds.{Way, only-first, only-second, differing, same, neither, way}
+use Rattle.catalogue_compare.specs.Kinds.{Way, only-first, only-second, differing, same, neither}
+use Rattle.catalogue_compare.proofs.Kinds.{way}
 use Rattle.catalogue_compare.specs.Encoded.{changes-length}
-use Rattle.catalogue_compare.specs.Laws.{Has, has_some, the-place, some-has, listed-passing, kind-lists}
+use Rattle.catalogue_compare.specs.Laws.{Has}
+use Rattle.catalogue_compare.proofs.Laws.{has_some, the-place, some-has, listed-passing, kind-lists}
 
 no_bytes : (l : List ℕ) → length l ≡ 0 → l ≡ []
 no_bytes [] e = refl

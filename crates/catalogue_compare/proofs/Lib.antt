@@ -1,0 +1,8 @@
+-- The laws of the definitions in specs/.
+pub mod CompareSteps
+pub mod Equal
+pub mod Kinds
+pub mod Laws
+pub mod StepLaws
+pub mod Walk
+pub mod Written
