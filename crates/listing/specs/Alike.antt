@@ -6,7 +6,6 @@ use Rattle.std.proofs.Math.Path.{refl}
 use Rattle.refusal.specs.declared.Refusal.{Refusal}
 use Rattle.refusal.specs.Numbers as number
 use Rattle.refusal.specs.Table.{answered}
-use Rattle.frame_list.specs.declared.Report.{Report}
 use Rattle.catalogue.specs.Alike.{Alike, identity-same}
 use Rattle.chain.specs.declared.Settings.{Settings}
 use Rattle.chain.specs.Chain.{Call, call, listed}
@@ -18,9 +17,7 @@ use Rattle.text.specs.Refused.{refusal_line}
 use Rattle.text.specs.Ascii.{ascii}
 use Rattle.text.specs.Decimal.{decimal}
 use Rattle.listing.specs.lines.Lines.{name_of, report_lines, matrix_lines}
-use Rattle.listing.specs.declared.Asked.TheVariants.{Listing}
-use Rattle.listing.specs.Listing.{nobody, early, accepted_text, refused_text, answer_text}
-use Rattle.listing.specs.Asked.{samples_in, read_text, text_of}
+use Rattle.listing.specs.Listing.{nobody, early, accepted_text, refused_text, answer_text, samples_in, text_of, listing_text}
 
 module _ {first second : List ℕ} (a : Alike first second) where
   -- the name of a star
@@ -52,10 +49,10 @@ module _ {first second : List ℕ} (a : Alike first second) where
         (report_lines (t j).report (λ k. name-same (get_or (t j).stars k 0) j) ++ matrix_lines (t j).matrix)
         (t j).outcome)
 
-  pub listing-same : (settings frame : List ℕ) → text_of Listing settings frame first ≡ text_of Listing settings frame second
-  unfolding text_of
+  pub listing-same : (settings frame : List ℕ) → listing_text settings frame first ≡ listing_text settings frame second
+  unfolding listing_text text_of
   listing-same settings frame = go (reading_of settings)
     where
-      go : (r : Reading) → read_text Listing frame first r ≡ read_text Listing frame second r
+      go : (r : Reading) → text_of frame first r ≡ text_of frame second r
       go (reading.Refused r) = refl
       go (reading.Read s) = answer-same (samples_in frame s) s (replicate 4096 0)

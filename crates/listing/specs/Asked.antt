@@ -1,21 +1,19 @@
 -- What is asked of three files, and the bytes that answer it. Assumes nothing.
-use Rattle.std.specs.Prelude.{List, ℕ, length}
-use Rattle.chain.specs.declared.Settings.{Settings}
+use Rattle.std.specs.Prelude.{List, ℕ}
 use Rattle.chain.specs.Chain.{Call}
 use Rattle.files.specs.declared.Reading.{Reading}
 use Rattle.files.specs.declared.Reading.TheVariants as reading
 use Rattle.files.specs.Settings.{reading_of}
-use Rattle.files.specs.Samples.{sample_count, samples_of}
 use Rattle.text.specs.Refused.{refusal_line}
 use Rattle.listing.specs.declared.Asked.{Asked}
 use Rattle.listing.specs.declared.Asked.TheVariants.{Listing, Rival}
-use Rattle.listing.specs.Listing.{chain_on, answer_text}
-use Rattle.listing.specs.Rival.{rival_text}
+use Rattle.listing.specs.Listing.{chain_on, samples_in, answer_text}
+use Rattle.listing.specs.Rival.{call_text}
 
 -- the lines of a call of the chain
 abbrev pub lines_of : Asked → Call → List ℕ
 lines_of Listing c = answer_text c
-lines_of Rival c = rival_text c
+lines_of Rival c = call_text c
 
 -- and how many bytes they have at most
 abbrev pub most_of : Asked → ℕ
@@ -24,19 +22,10 @@ most_of Rival = 840
 
 -- ---- the files
 
-abbrev pub samples_in : List ℕ → Settings → List ℕ
-samples_in frame s = samples_of frame (sample_count (length frame) s.width s.height)
-
 abbrev pub read_text : Asked → List ℕ → List ℕ → Reading → List ℕ
 read_text asked frame catalogue (reading.Refused r) = refusal_line r
 read_text asked frame catalogue (reading.Read s) = lines_of asked (chain_on (samples_in frame s) catalogue s)
 
 -- the text for settings.bin, frame.bin and catalogue.bin
-unfoldable pub text_of : Asked → List ℕ → List ℕ → List ℕ → List ℕ
-text_of asked settings frame catalogue = read_text asked frame catalogue (reading_of settings)
-
--- ---- the room
-
--- how many bytes a room for any text has; a shorter one gets nothing (`room_with` of text)
-abbrev pub room_size : ℕ
-room_size = 2048
+unfoldable pub asked_text : Asked → List ℕ → List ℕ → List ℕ → List ℕ
+asked_text asked settings frame catalogue = read_text asked frame catalogue (reading_of settings)

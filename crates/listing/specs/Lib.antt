@@ -3,5 +3,6 @@ pub mod Listing
 pub mod ListingLaws
 pub mod Rival
 pub mod Asked
+pub mod AskedLaws
 pub mod Alike
 pub mod lines

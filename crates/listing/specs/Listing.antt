@@ -1,5 +1,5 @@
--- The whole listing of a call of the chain, accepted or refused. Assumes nothing.
-use Rattle.std.specs.Prelude.{Bool, true, cond, ◌≡◌, List, ◌++◌, ℕ, ltb, eqb, get_or, replicate}
+-- The whole listing of three files, accepted or refused. Assumes nothing.
+use Rattle.std.specs.Prelude.{Bool, true, cond, ◌≡◌, List, ◌++◌, ℕ, ltb, eqb, length, get_or, replicate}
 use Rattle.refusal.specs.declared.Refusal.{Refusal}
 use Rattle.refusal.specs.declared.Outcome.TheVariants as outcome
 use Rattle.refusal.specs.Numbers as number
@@ -7,6 +7,10 @@ use Rattle.refusal.specs.Table.{answered}
 use Rattle.chain.specs.declared.Settings.{Settings}
 use Rattle.chain.specs.declared.Tracked.{Tracked}
 use Rattle.chain.specs.Chain.{Call, call, listed, our_identification, tracked_of, room_after}
+use Rattle.files.specs.declared.Reading.{Reading}
+use Rattle.files.specs.declared.Reading.TheVariants as reading
+use Rattle.files.specs.Settings.{reading_of}
+use Rattle.files.specs.Samples.{sample_count, samples_of}
 use Rattle.text.specs.Refused.{refusal_line}
 use Rattle.text.specs.Ascii.{ascii}
 use Rattle.listing.specs.lines.Lines.{name_of, report_lines, matrix_lines}
@@ -42,9 +46,27 @@ refused_text c r =
 unfoldable pub answer_text : Call → List ℕ
 answer_text c = answered (refused_text c) (accepted_text c.catalogue (tracked_of c)) (tracked_of c).outcome
 
+-- ---- the files
+
 -- the chain on the samples of a frame file, with room for any ranking
 abbrev pub chain_on : List ℕ → List ℕ → Settings → Call
 chain_on samples catalogue s = call samples catalogue s (replicate 4096 0)
+
+abbrev pub samples_in : List ℕ → Settings → List ℕ
+samples_in frame s = samples_of frame (sample_count (length frame) s.width s.height)
+
+unfoldable pub text_of : List ℕ → List ℕ → Reading → List ℕ
+text_of frame catalogue (reading.Refused r) = refusal_line r
+text_of frame catalogue (reading.Read s) = answer_text (chain_on (samples_in frame s) catalogue s)
+
+unfoldable pub listing_text : List ℕ → List ℕ → List ℕ → List ℕ
+listing_text settings frame catalogue = text_of frame catalogue (reading_of settings)
+
+-- ---- the room
+
+-- how many bytes a room for any listing has; a shorter one gets nothing (`room_with` of text)
+abbrev pub room_size : ℕ
+room_size = 2048
 
 -- ---- what the lines of a refusal are handed: the call's refusal, and the room that the chain left
 

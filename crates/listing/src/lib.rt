@@ -1,14 +1,14 @@
 // The whole answer to three files, accepted or refused, as bytes in a lent room: the listing of document 01, or the lines about rivals.
 #![tactic(auto)]
 
-mod lines;
-mod rival;
+pub mod lines;
+pub mod rival;
 
 ghost use Rattle.std.specs.Prelude.{◌≡◌, ◌≤◌};
 ghost use Rattle.text.specs.Room.{room_with, length_in};
 ghost use Rattle.text.specs.Written.{Wrote};
-ghost use Rattle.listing.specs.Listing.{early, Refuses, Finds, chain_on, refused_text, answer_text};
-ghost use Rattle.listing.specs.Asked.{most_of, samples_in, lines_of, text_of, room_size};
+ghost use Rattle.listing.specs.Listing.{early, Refuses, Finds, chain_on, samples_in, refused_text, answer_text, listing_text, room_size};
+ghost use Rattle.listing.specs.Asked.{most_of, lines_of, asked_text};
 ghost use Rattle.listing.specs.Listing.{found as words_found};
 
 use chain::Settings;
@@ -135,16 +135,16 @@ fn listed(
 
 // Puts what is asked at the start of the room, leaves the rest as it is, and answers how many bytes it has. A room of fewer than 2,048 bytes gets none.
 // No listing has more than 1,120, and no lines about rivals more than 840.
-pub fn write(
+fn write_asked(
     asked: Asked,
     settings: &[u8],
     frame: &[u8],
     catalogue: &[u8],
     room: &mut [u8],
 ) -> usize
-    ensures value { result ≡ length_in room_size room.old (text_of asked settings.now frame.now catalogue.now) }
+    ensures value { result ≡ length_in room_size room.old (asked_text asked settings.now frame.now catalogue.now) }
     ensures room_after { room.new ≡ room_with room_size room.old
-        (text_of asked settings.now frame.now catalogue.now) }
+        (asked_text asked settings.now frame.now catalogue.now) }
     ensures upper_bound { result ≤ most_of asked }
 {
     if room.len() < ROOM {
@@ -154,4 +154,14 @@ pub fn write(
         Reading::Refused(r) => text::refused(room, 0, r),
         Reading::Read(s) => listed(asked, s, frame, catalogue, room),
     }
+}
+
+// Puts the listing at the start of the room, leaves the rest as it is, and answers how many bytes it has. A room of fewer than 2,048 bytes gets none.
+// No listing has more than 1,120.
+pub fn write(settings: &[u8], frame: &[u8], catalogue: &[u8], room: &mut [u8]) -> usize
+    ensures value { result ≡ length_in room_size room.old (listing_text settings.now frame.now catalogue.now) }
+    ensures room_after { room.new ≡ room_with room_size room.old (listing_text settings.now frame.now catalogue.now) }
+    ensures upper_bound { result ≤ 1120 }
+{
+    write_asked(Asked::Listing, settings, frame, catalogue, room)
 }

@@ -1,9 +1,11 @@
 // The lines about rivals: "alone", or a line for each listed star with the rival's names.
-ghost use Rattle.std.specs.Prelude.{◌≤◌};
+ghost use Rattle.std.specs.Prelude.{◌≡◌, ◌≤◌};
+ghost use Rattle.text.specs.Room.{room_with, length_in};
 ghost use Rattle.text.specs.Written.{Wrote};
-ghost use Rattle.listing.specs.Listing.{chain_on};
-ghost use Rattle.listing.specs.Rival.{contest_text, rival_text};
+ghost use Rattle.listing.specs.Listing.{chain_on, room_size};
+ghost use Rattle.listing.specs.Rival.{contest_text, call_text, rival_text};
 
+use crate::Asked;
 use chain::Settings;
 use frame_list::Report;
 use refusal::Outcome;
@@ -34,11 +36,20 @@ pub(crate) fn rivals(
     settings: Settings,
     room: &mut [u8],
 ) -> usize
-    ensures wrote { Wrote room.old 0 (rival_text (chain_on samples.now catalogue.now settings)) room.new result }
+    ensures wrote { Wrote room.old 0 (call_text (chain_on samples.now catalogue.now settings)) room.new result }
     ensures upper_bound { result ≤ 840 }
 {
     let mut ranking = [0u16; 4096];
     let contest = chain::rival::contest(samples, catalogue, settings, &mut ranking);
     let listing = frame_list::list(samples, settings.width, settings.height, settings.threshold);
     contested(room, listing.report, contest, catalogue)
+}
+
+// Puts the lines at the start of the room, leaves the rest as it is, and answers how many bytes they have. A room of fewer than 2,048 bytes gets none.
+pub fn rival(settings: &[u8], frame: &[u8], catalogue: &[u8], room: &mut [u8]) -> usize
+    ensures value { result ≡ length_in room_size room.old (rival_text settings.now frame.now catalogue.now) }
+    ensures room_after { room.new ≡ room_with room_size room.old (rival_text settings.now frame.now catalogue.now) }
+    ensures upper_bound { result ≤ 840 }
+{
+    crate::write_asked(Asked::Rival, settings, frame, catalogue, room)
 }

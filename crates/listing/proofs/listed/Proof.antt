@@ -7,8 +7,8 @@ use lib.ListN.{length, take}
 use lib.Seq.{length-take-le}
 use Rattle.files.specs.Samples.{lent-within, lent-samples}
 use Rattle.text.specs.Written.{Wrote}
-use Rattle.listing.specs.Listing.{chain_on}
-use Rattle.listing.specs.Asked.{samples_in, lines_of}
+use Rattle.listing.specs.Listing.{chain_on, samples_in}
+use Rattle.listing.specs.Asked.{lines_of}
 use Rattle.listing.proofs.listed.Statement.{statement}
 use Rattle.listing.proofs.listed.Tie as tie
 

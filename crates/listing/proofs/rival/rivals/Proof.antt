@@ -9,14 +9,14 @@ use Rattle.chain.specs.Chain.{Call, listed}
 use Rattle.listing.specs.Listing.{chain_on}
 use Rattle.search_rival.specs.declared.Contest.{Contest}
 use Rattle.chain.specs.rival.Chain.{contested_of}
-use Rattle.listing.specs.Rival.{contest_text, rival_text}
+use Rattle.listing.specs.Rival.{contest_text, call_text}
 use Rattle.listing.proofs.rival.rivals.Statement.{statement}
 use Rattle.listing.proofs.rival.rivals.Tie as tie
 
 -- the text of a report and a contest that are the call's
 told : (c : Call) (l : Listing) (x : Contest) {a b : List ℕ} {n : ℕ} → l ≡ listed c → x ≡ contested_of c
-    → Wrote a 0 (contest_text l.report c.catalogue x) b n → Wrote a 0 (rival_text c) b n
-unfolding rival_text
+    → Wrote a 0 (contest_text l.report c.catalogue x) b n → Wrote a 0 (call_text c) b n
+unfolding call_text
 told c l x {a} {b} {n} e q = subst (λ (t : List ℕ). Wrote a 0 t b n) (λ i. contest_text (e i).report c.catalogue (q i))
 
 slice-aggregate-contest : tie.Need-slice_bounds-contest-end

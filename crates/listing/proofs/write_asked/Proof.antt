@@ -1,4 +1,4 @@
--- `listing::write` meets its contract: no text is longer than the room, so all of it stands there. Assumes nothing.
+-- `listing::write_asked` meets its contract: no text is longer than the room, so all of it stands there. Assumes nothing.
 use borrow.Author.Rules.{rules}
 use mathlib.Core.Path.{◌≡◌, sym, ap, ◌∙◌}
 use mathlib.Core.List.{List}
@@ -13,10 +13,10 @@ use Rattle.text.specs.Refused.{refusal_line}
 use Rattle.text.specs.RoomLaws.{room-short, room-told}
 use Rattle.listing.specs.declared.Asked.{Asked}
 use Rattle.listing.specs.declared.Asked.TheVariants.{Listing, Rival}
-use Rattle.listing.specs.Listing.{chain_on}
-use Rattle.listing.specs.Asked.{most_of, samples_in, lines_of, read_text, text_of}
-use Rattle.listing.proofs.write.Statement.{statement}
-use Rattle.listing.proofs.write.Tie as tie
+use Rattle.listing.specs.Listing.{chain_on, samples_in}
+use Rattle.listing.specs.Asked.{most_of, lines_of, read_text, asked_text}
+use Rattle.listing.proofs.write_asked.Statement.{statement}
+use Rattle.listing.proofs.write_asked.Tie as tie
 
 -- a refusal is shorter than any answer may be, and every answer than the room
 most : (a : Asked) → (50 ≤ most_of a) × (most_of a < 2048)
@@ -24,12 +24,12 @@ most Listing = (omega arith, omega arith)
 most Rival = (omega arith, omega arith)
 
 module _ (asked : Asked) (settings frame catalogue : List ℕ) where
-  refused-text : (r : Refusal) → reading_of settings ≡ Refused r → refusal_line r ≡ text_of asked settings frame catalogue
-  unfolding text_of
+  refused-text : (r : Refusal) → reading_of settings ≡ Refused r → refusal_line r ≡ asked_text asked settings frame catalogue
+  unfolding asked_text
   refused-text r e = sym (ap (λ (x : Reading). read_text asked frame catalogue x) e)
 
-  read-text : (s : Settings) → reading_of settings ≡ Read s → lines_of asked (chain_on (samples_in frame s) catalogue s) ≡ text_of asked settings frame catalogue
-  unfolding text_of
+  read-text : (s : Settings) → reading_of settings ≡ Read s → lines_of asked (chain_on (samples_in frame s) catalogue s) ≡ asked_text asked settings frame catalogue
+  unfolding asked_text
   read-text s e = sym (ap (λ (x : Reading). read_text asked frame catalogue x) e)
 
 abbrev start : tie.Else-room-lt-ROOM → tie.Start
@@ -81,8 +81,8 @@ returns-3 c =
     ∙ k.in-Read.is) in
     room-told 2048 _ _ _ _ _ _ e.if-room-lt-ROOM.false w.listed.ensures.1 (most a.asked).1 t w.listed.ensures.0
 
-pub write_spec : {M : Type 1} → statement M
-write_spec =
+pub write_asked_spec : {M : Type 1} → statement M
+write_asked_spec =
     tie.close
     (tie.spec
     returns
