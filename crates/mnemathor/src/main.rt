@@ -4,7 +4,6 @@
 ghost use Rattle.std.specs.Prelude.{◌≤◌, length};
 
 use catalogue::{MOST_RECORDS, RECORD_SIZE};
-use listing::Asked;
 use std::fs::File;
 use std::io;
 use std::io::Read;
@@ -59,12 +58,6 @@ fn main(rt: HostRuntime) -> io::Result<()> {
     let mut catalogue = [0u8; CATALOGUE_ROOM];
     let k = read(&rt, "catalogue.bin", &mut catalogue);
     let mut room = [0u8; listing::ROOM];
-    let end = listing::write(
-        Asked::Listing,
-        &settings[..n],
-        &frame[..m],
-        &catalogue[..k],
-        &mut room,
-    );
+    let end = listing::write(&settings[..n], &frame[..m], &catalogue[..k], &mut room);
     show(&rt, &room[..end])
 }
