@@ -6,7 +6,6 @@ ghost use Rattle.std.specs.Prelude.{◌≤◌, ◌<◌, length};
 
 use catalogue::{MOST_RECORDS, RECORD_SIZE};
 use desk_lines::cut::Limit;
-use listing::Asked;
 use std::env::{Env, FillError};
 use std::fs::{File, OpenFile};
 use std::io::{Read, Write};
@@ -325,13 +324,7 @@ fn rival(rt: &(impl Files + Print + Eprint)) -> io::Result<()> {
     let mut catalogue = [0u8; CATALOGUE_ROOM];
     let k = read(rt, "catalogue.bin", &mut catalogue);
     let mut room = [0u8; listing::ROOM];
-    let end = listing::write(
-        Asked::Rival,
-        &settings[..n],
-        &frame[..m],
-        &catalogue[..k],
-        &mut room,
-    );
+    let end = listing::rival::rival(&settings[..n], &frame[..m], &catalogue[..k], &mut room);
     show(rt, &room[..end])
 }
 
