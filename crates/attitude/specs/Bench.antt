@@ -9,7 +9,6 @@ use Rattle.attitude.specs.declared.Attitude.TheVariants.{Found}
 use Rattle.attitude.specs.Scale.{first_shift, shift_of, reduced_of}
 use Rattle.attitude.specs.Attitude.{attitude_of}
 use Rattle.attitude.specs.Laws.{refused_as}
-use Rattle.attitude.specs.Known.{attitude-by}
 
 -- 10^9 along the axes of the camera, and against the second
 abbrev pub right : Vec3
@@ -23,22 +22,3 @@ up = record { x = pos 0; y = negsuc 999999999; z = pos 0 }
 
 abbrev pub out : Vec3
 out = record { x = pos 0; y = pos 0; z = pos 1000000000 }
-
--- d of every side here is 10^18 / 2^30 along one axis
-known : Root (931322574 * 931322574) 931322574
-known = record { below = lit≤ tt; above = lit< tt }
-
--- I: two vectors with themselves give the identity
-pub case-I : attitude_of out right out right ≡ Found (record { row0 = right; row1 = down; row2 = out })
-unfolding reduced_of shift_of first_shift first_applying
-case-I = attitude-by out right out right known known
-
--- J: the camera sees them turned
-pub case-J : attitude_of out down out right ≡ Found (record { row0 = up; row1 = right; row2 = out })
-unfolding reduced_of shift_of first_shift first_applying
-case-J = attitude-by out down out right known known
-
--- K: one direction twice
-pub case-K : attitude_of out out out right ≡ refused_as close
-unfolding attitude_of first_applying
-case-K = refl

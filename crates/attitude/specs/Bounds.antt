@@ -34,7 +34,7 @@ div_mono {p} {a} h k = (le-div_iff_mul-le h).1 (le_trans (div-mul-le_self a p) k
 pub quot-within : {a p : ℕ} {z : ℤ} → 0 < p → Within a z → Within (a / p) (quot_z z (pos p))
 quot-within h k = record { within = rw abs-quot (div_mono h k.within) }
 
-over-within : {a p : ℕ} {v : Vec3} → 0 < p → Within3 a v → Within3 (a / p) (over_of v (pos p))
+pub over-within : {a p : ℕ} {v : Vec3} → 0 < p → Within3 a v → Within3 (a / p) (over_of v (pos p))
 over-within h k = record { x = quot-within h k.x; y = quot-within h k.y; z = quot-within h k.z }
 
 self-square : (a : ℕ) → a ≤ a * a
@@ -113,15 +113,6 @@ unit-within d =
     record { x = drawn-out _ d.x w.x; y = drawn-out _ d.y w.y; z = drawn-out _ d.z w.z }
 
 -- ---- a side, and the matrix of two
-
-pub axes-within : (v w : Vec3) → Within3 1000000000 v → AxesWithin (axes_of v w)
-unfolding axes_of
-axes-within v w h =
-    record {
-      t1 = h;
-      t2 = unit-within _;
-      t3 = over-within (lit< tt) (cross-within h (unit-within _));
-    }
 
 module _ {a b c : ℤ} (i : Within 1000000000 a) (j : Within 1000000000 b) (k : Within 2000000000 c) where
   entry-within : {x y z : ℤ} → Within 1000000000 x → Within 1000000000 y → Within 2000000000 z → Within 6000000000 (entry_by a b c x y z)

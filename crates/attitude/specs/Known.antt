@@ -17,16 +17,3 @@ reduced_cross v w = reduced_of (cross_of v w)
 pub axes-by : (v w : Vec3) {n : ℕ} → Root (squares_of (reduced_cross v w)) n → axes_of v w ≡ axes_by v (unit_by (reduced_cross v w) (pos n))
 unfolding axes_of unit_of
 axes-by v w r = ap (λ (n : ℕ). axes_by v (unit_by (reduced_cross v w) (pos n))) (sym (root-of r))
-
-pub attitude-by :
-    (v1 v2 w1 w2 : Vec3) {n m : ℕ} →
-    Root (squares_of (reduced_cross v1 v2)) n →
-    Root (squares_of (reduced_cross w1 w2)) m →
-    attitude_of v1 v2 w1 w2 ≡
-    given
-    (out_of_range v1 v2 w1 w2)
-    (either_close v1 v2 w1 w2)
-    (product_of (axes_by v1 (unit_by (reduced_cross v1 v2) (pos n))) (axes_by w1 (unit_by (reduced_cross w1 w2) (pos m))))
-unfolding attitude_of matrix_of
-attitude-by v1 v2 w1 w2 p q =
-    λ i. given (out_of_range v1 v2 w1 w2) (either_close v1 v2 w1 w2) (product_of (axes-by v1 v2 p i) (axes-by w1 w2 q i))

@@ -11,10 +11,8 @@ pub mod Nearly
 pub mod Identities
 pub mod Length
 pub mod Upright
-pub mod Carry
 pub mod Frame
 pub mod Rotation
-pub mod Accuracy
 pub mod Known
 pub mod Bench
 pub mod orient

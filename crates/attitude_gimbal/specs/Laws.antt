@@ -19,7 +19,8 @@ use Rattle.attitude.specs.declared.Matrix.{Matrix}
 use Rattle.attitude.specs.declared.Attitude.TheVariants.{Found}
 use Rattle.attitude.specs.Entries.{MatrixWithin}
 use Rattle.attitude.specs.Attitude.{attitude_of}
-use Rattle.attitude.specs.Laws.{largest-in, or-false, entries-within}
+use Rattle.attitude.specs.Laws.{largest-in, or-false}
+use Rattle.attitude.proofs.Laws.{entries-within}
 use Rattle.attitude_gimbal.specs.declared.Cosines.{Cosines}
 use Rattle.attitude_gimbal.specs.declared.Gimbal.{Gimbal}
 use Rattle.attitude_gimbal.specs.declared.Gimbal.TheVariants.{Refused, Rows}

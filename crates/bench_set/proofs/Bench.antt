@@ -51,7 +51,7 @@ use Rattle.search.specs.Refusals as refusals
 use Rattle.search.specs.declared.Identification.{Identification}
 use Rattle.search.specs.Identified.{pad_to, identification_of}
 use Rattle.search.proofs.Answers.{identified}
-use Rattle.attitude.specs.Bench.{case-I, case-J, case-K}
+use Rattle.attitude.proofs.Bench.{case-I, case-J, case-K}
 use Rattle.attitude_gimbal.specs.Bench as gimbal
 use Rattle.bench_set.specs.Frames.{side, evenly}
 use Rattle.bench_set.specs.Case.{search, judged_as, sent_of, Holds, AllHold}

@@ -28,7 +28,7 @@ use Rattle.attitude.specs.declared.Matrix.{Matrix}
 use Rattle.attitude.specs.declared.Attitude.{Attitude}
 use Rattle.attitude.specs.declared.Attitude.TheVariants as attitude
 use Rattle.attitude.specs.Entries.{MatrixWithin}
-use Rattle.attitude.specs.Laws.{in-range-answer, entries-within}
+use Rattle.attitude.proofs.Laws.{in-range-answer, entries-within}
 use Rattle.chain.specs.declared.Settings.{Settings}
 use Rattle.chain.specs.declared.Tracked.{Tracked}
 use Rattle.attitude.specs.orient.Orient.{orientation_of}

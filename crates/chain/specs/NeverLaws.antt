@@ -18,7 +18,8 @@ use Rattle.search.specs.Identified.{found_of, identification_of}
 use Rattle.search.proofs.Promise.{none-refuses}
 use Rattle.attitude.specs.declared.Attitude.{Attitude}
 use Rattle.attitude.specs.declared.Attitude.TheVariants as attitude
-use Rattle.attitude.specs.Laws.{InRange, in-range-answer}
+use Rattle.attitude.specs.Laws.{InRange}
+use Rattle.attitude.proofs.Laws.{in-range-answer}
 use Rattle.refusal.specs.Numbers as number
 use Rattle.search.specs.Identified as sought
 use Rattle.search_fit.specs.Fit.{problem}

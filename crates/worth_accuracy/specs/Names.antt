@@ -31,8 +31,10 @@ use Rattle.chain.specs.declared.Settings.{Settings}
 use Rattle.chain.specs.Sight.{vector_of, sight_of, InFrame}
 use Rattle.chain.specs.Chain.{Call, listed, refusals_of, sights_of, our_ranking, our_identification, tracked_of}
 use Rattle.chain.specs.rival.Chain.{our_contest, contested_of}
-use Rattle.worth_names.specs.Names.{FitsCall, BothName, no-wrong-name, wrong_name}
-use Rattle.worth_names.specs.Tolerance.{Assigns, Measured, truth-fits}
+use Rattle.worth_names.specs.Names.{FitsCall, BothName, no-wrong-name}
+use Rattle.worth_names.proofs.Names.{wrong_name}
+use Rattle.worth_names.specs.Tolerance.{Assigns, Measured}
+use Rattle.worth_names.proofs.Tolerance.{truth-fits}
 use Rattle.worth_names.specs.Sure.{tolerance_for, moved_by, position-moved}
 use Rattle.worth_accuracy.specs.Chain.{tracked-settled, tracked-stars}
 

@@ -38,9 +38,11 @@ use Rattle.attitude.specs.Nearly.{Apart, Carries}
 use Rattle.attitude.specs.Identities.{made-x, dot-mix-from}
 use Rattle.attitude.specs.Bounds.{unit-within}
 use Rattle.attitude.specs.Length.{root-long}
-use Rattle.attitude.specs.Upright.{over-near-from, second-upright-other, second-unit}
-use Rattle.attitude.specs.Accuracy.{camera-apart, sky-apart, found-is}
-use Rattle.attitude.specs.Frame.{Frame, side-frame, third-small, Rows, rows}
+use Rattle.attitude.specs.Upright.{over-near-from}
+use Rattle.attitude.proofs.Upright.{second-upright-other, second-unit}
+use Rattle.attitude.proofs.Accuracy.{camera-apart, sky-apart, found-is}
+use Rattle.attitude.specs.Frame.{Frame, third-small, Rows, rows}
+use Rattle.attitude.proofs.Frame.{side-frame}
 use Rattle.worth_accuracy.specs.Worth.{Worth}
 
 -- ---- a vector made anew from its dot products with the three axes of a side

@@ -24,7 +24,7 @@ use Rattle.attitude.specs.Side.{axes_of}
 use Rattle.attitude.specs.Attitude.{attitude_of}
 use Rattle.attitude.specs.Transposed.{transposed}
 use Rattle.attitude.specs.Nearly.{Apart, NearlyOrthonormal, Carries, NearlyRotation}
-use Rattle.attitude.specs.Accuracy.{camera-apart, sky-apart, found-axes, rotation, star-carried, seen-carried}
+use Rattle.attitude.proofs.Accuracy.{camera-apart, sky-apart, found-axes, rotation, star-carried, seen-carried}
 use Rattle.attitude.specs.orient.Orient.{first_assigned, second_assigned, orientation_of}
 
 -- the first two directions that have a star, with it; every direction and every star is nearly a unit; the matrix is the attitude of those two; the axes of

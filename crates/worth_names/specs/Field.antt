@@ -20,7 +20,7 @@ use Rattle.catalogue.specs.Stars.{stars_of}
 use Rattle.search_theory.specs.Order.{at}
 use Rattle.search_fit.specs.Fit.{agreement}
 use Rattle.worth_names.specs.Names.{FitsCall}
-use Rattle.worth_names.specs.Tolerance.{Assigns, Named, Measured, fits-where}
+use Rattle.worth_names.specs.Tolerance.{Assigns, Named, Measured}
 
 -- twice the difference of two dot products, by the errors' difference along the chord, the lengths, and the errors' square
 chord :
@@ -72,12 +72,3 @@ module _ (directions stars : List ℤ) (truth : List ℕ) (ideal : ℕ → Vec3)
         near-agreeing (pair_dot directions i j) (pair_dot stars (at truth i) (at truth j)) tolerance
         (wider (within-as (through (pair_dot directions i j) (dot_of (ideal i) (ideal j)) (pair_dot stars (at truth i) (at truth j)))
         (within-add (moved i j p q) (m.pairs i j p q))) (omega arith)).within
-
--- THE TRUTH FITS, in a field
-pub field_fits :
-    {e d g l h : ℕ} (directions : List ℤ) (bytes : List ℕ) (needed tolerance : ℕ) (truth : List ℕ) (ideal : ℕ → Vec3) →
-    Assigns (directions_in directions) (records_in bytes) needed truth → Measured directions (stars_of bytes) truth ideal e d g (records_in bytes) →
-    InField directions (stars_of bytes) truth ideal l h (records_in bytes) → d + 6 * (h * e) + 6 * (e * e) + 2 * l ≤ tolerance
-    → FitsCall directions bytes needed tolerance truth
-field_fits directions bytes needed tolerance truth ideal a m f wide =
-    fits-where directions bytes needed tolerance truth ideal a m (field-agree directions (stars_of bytes) truth ideal m f wide)

@@ -53,14 +53,3 @@ module _
           absurd ((contested.judged found).first.none alone truth
           (record { fits = fits; dir = i; within = both.within; its = both.its; our = both.our; other = other })))
           (eq-or (at truth i) (at ours i))
-
-      -- the other side: a wrong name of a true star means that the truth does not fit, or that there is a rival
-      pub wrong_name : (at ours i ≡ at truth i → ⊥) → (FitsCall directions bytes needed tolerance truth → ⊥) ⊎ (r.rival ≡ true)
-      wrong_name wrong = ⊎_elim inr (λ (alone : r.rival ≡ false). inl (λ fits. wrong (no-wrong-name fits alone))) (either r.rival)
-
-    -- where the truth names every direction, every name is the true one
-    pub every-name-true :
-        (truth : List ℕ) → FitsCall directions bytes needed tolerance truth → ((i : ℕ) → i < directions_in directions → at truth i < records_in bytes) →
-        r.rival ≡ false → (i : ℕ) → i < directions_in directions → at ours i < records_in bytes → at ours i ≡ at truth i
-    every-name-true truth fits all alone i within our =
-        no-wrong-name truth i (record { within = within; our = our; its = all i within }) fits alone

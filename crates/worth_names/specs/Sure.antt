@@ -18,7 +18,7 @@ use Rattle.search.specs.Identified.{identification_of}
 use Rattle.search_rival.specs.declared.Contest.{Contest}
 use Rattle.search_rival.specs.Contested.{Contested}
 use Rattle.worth_names.specs.Names.{BothName, no-wrong-name}
-use Rattle.worth_names.specs.Tolerance.{Assigns, Measured, truth-fits}
+use Rattle.worth_names.specs.Tolerance.{Assigns, Measured}
 
 -- the least tolerance that covers directions off by e of vectors whose pairs differ from their stars' by d
 abbrev pub tolerance_for : ℕ → ℕ → ℕ
@@ -37,15 +37,3 @@ position-moved f p x y x' y' h across down =
   where
     three : (n : ℕ) → n + 1 + 2 ≡ n + 3
     three n = omega arith
-
--- NO WRONG NAME, from the errors alone
-pub errors-covered :
-    {e d g : ℕ} (directions : List ℤ) (bytes : List ℕ) (needed tolerance : ℕ) (words : List ℕ) (r : Contest) (truth : List ℕ) (ideal : ℕ → Vec3) →
-    Contested directions bytes needed tolerance words r → r.outcome ≡ Accepted → r.rival ≡ false →
-    Assigns (directions_in directions) (records_in bytes) needed truth → Measured directions (stars_of bytes) truth ideal e d g (records_in bytes)
-    → tolerance_for d e ≤ tolerance →
-    (i : ℕ) → BothName directions bytes (identification_of directions bytes needed tolerance words).stars truth i
-    → at (identification_of directions bytes needed tolerance words).stars i ≡ at truth i
-errors-covered directions bytes needed tolerance words r truth ideal contested answered alone assigns measured wide i both =
-    no-wrong-name directions bytes needed tolerance words r contested answered truth i both
-    (truth-fits directions bytes needed tolerance truth ideal assigns measured wide) alone

@@ -82,31 +82,3 @@ module _ (directions stars : List ℤ) (truth : List ℕ) (ideal : ℕ → Vec3)
         (m.near i p) (m.near j q) (m.near k r) (m.range i p) (m.range j q) (m.range k r))
         (m.threes i j k p q r)) in
         ⊎_elim (small-unmirrored t (star_triple i j k)) (near-unmirrored t (star_triple i j k) w) (m.upright i j k p q r)
-
--- what fits: every two agree, and the threes are as measured
-pub fits-where :
-    {e d g : ℕ} (directions : List ℤ) (bytes : List ℕ) (needed tolerance : ℕ) (truth : List ℕ) (ideal : ℕ → Vec3) →
-    Assigns (directions_in directions) (records_in bytes) needed truth → Measured directions (stars_of bytes) truth ideal e d g (records_in bytes) →
-    ((i j : ℕ) → Named directions (stars_of bytes) truth ideal (records_in bytes) i → Named directions (stars_of bytes) truth ideal (records_in bytes) j
-    → agreement directions (stars_of bytes) tolerance i j (at truth i) (at truth j) ≡ true) →
-    FitsCall directions bytes needed tolerance truth
-fits-where directions bytes needed tolerance truth ideal a m agree =
-    record {
-      long = a.long;
-      words = a.words;
-      different = a.different;
-      agreed = λ i j h k n p q. agree i j (record { within = h; star = p }) (record { within = k; star = q });
-      unmirrored =
-          λ i j k h l n p q r.
-          none-mirrored directions (stars_of bytes) truth ideal m i j k (record { within = omega arith; star = p }) (record { within = omega arith; star = q })
-          (record { within = n; star = r });
-      enough = a.enough;
-    }
-
--- THE TRUTH FITS
-pub truth-fits :
-    {e d g : ℕ} (directions : List ℤ) (bytes : List ℕ) (needed tolerance : ℕ) (truth : List ℕ) (ideal : ℕ → Vec3) →
-    Assigns (directions_in directions) (records_in bytes) needed truth → Measured directions (stars_of bytes) truth ideal e d g (records_in bytes) →
-    d + 6000000000 * e + 3 * (e * e) ≤ tolerance → FitsCall directions bytes needed tolerance truth
-truth-fits directions bytes needed tolerance truth ideal a m wide =
-    fits-where directions bytes needed tolerance truth ideal a m (all-agree directions (stars_of bytes) truth ideal m wide)

@@ -10,8 +10,9 @@ use Rattle.attitude.specs.Scale.{largest_of}
 use Rattle.attitude.specs.Entries.{AxesWithin, product_of}
 use Rattle.refusal.specs.AnswerLaws.{in-terms}
 use Rattle.attitude.specs.Attitude.{matrix_of, attitude_of, attitude_answer, answer_for}
-use Rattle.attitude.specs.Bounds.{axes-within}
-use Rattle.attitude.specs.Laws.{InRange, answers, by-refusal, by-acceptance, acceptable}
+use Rattle.attitude.proofs.Bounds.{axes-within}
+use Rattle.attitude.specs.Laws.{InRange}
+use Rattle.attitude.proofs.Laws.{answers, by-refusal, by-acceptance, acceptable}
 use Rattle.attitude.proofs.triad.Statement.{statement}
 use Rattle.attitude.proofs.triad.Tie as tie
 

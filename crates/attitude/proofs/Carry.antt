@@ -11,11 +11,12 @@ use Rattle.vectors.specs.Symbols.{mix_of}
 use Rattle.vectors.specs.Unit.{NearlyUnit}
 use Rattle.attitude.specs.Side.{axes_of}
 use Rattle.attitude.specs.Entries.{row_by}
-use Rattle.attitude.specs.Bounds.{axes-within}
+use Rattle.attitude.proofs.Bounds.{axes-within}
 use Rattle.attitude.specs.Attitude.{matrix_of}
 use Rattle.attitude.specs.Nearly.{Apart, Carries}
 use Rattle.attitude.specs.Identities.{dot-mix}
-use Rattle.attitude.specs.Upright.{over-near-from, second-upright, third-upright}
+use Rattle.attitude.specs.Upright.{over-near-from}
+use Rattle.attitude.proofs.Upright.{second-upright, third-upright}
 
 module _ {l : ℕ} (v w : Vec3) (h : Apart v w) (u : NearlyUnit l v) where
   abbrev one : ℤ

@@ -13,12 +13,13 @@ use Rattle.attitude.specs.declared.Attitude.{Attitude}
 use Rattle.attitude.specs.declared.Attitude.TheVariants.{Refused, Found}
 use Rattle.attitude.specs.Side.{axes_of}
 use Rattle.attitude.specs.Attitude.{matrix_of, attitude_of, attitude_answer}
-use Rattle.attitude.specs.Laws.{InRange, in-range, apart-is, not-refused, in-range-answer}
+use Rattle.attitude.specs.Laws.{InRange, in-range, apart-is}
+use Rattle.attitude.proofs.Laws.{not-refused, in-range-answer}
 use Rattle.attitude.specs.Transposed.{transposed, matrix-turned}
 use Rattle.attitude.specs.Nearly.{Apart, NearlyOrthonormal, Carries, NearlyIdentity, looser-identity, NearlyRotation}
-use Rattle.attitude.specs.Carry.{carries}
-use Rattle.attitude.specs.Frame.{axes-orthonormal}
-use Rattle.attitude.specs.Rotation.{product-rows, proper}
+use Rattle.attitude.proofs.Carry.{carries}
+use Rattle.attitude.proofs.Frame.{axes-orthonormal}
+use Rattle.attitude.proofs.Rotation.{product-rows, proper}
 
 -- a number nearer to a than to 0 is positive
 above_zero : {k : ℕ} (a : ℕ) (z : ℤ) → Within k (z -ℤ pos a) → k < a → pos 0 <ℤ z

@@ -1,0 +1,10 @@
+-- The laws of the definitions in specs/.
+pub mod Accuracy
+pub mod Bench
+pub mod Bounds
+pub mod Carry
+pub mod Frame
+pub mod Known
+pub mod Laws
+pub mod Rotation
+pub mod Upright
