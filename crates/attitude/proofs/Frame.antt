@@ -18,7 +18,7 @@ use Rattle.attitude.proofs.Bounds.{axes-within}
 use Rattle.attitude.specs.Nearly.{Apart, NearlyOrthonormal}
 use Rattle.attitude.specs.Identities.{third-square, row_same, row_next, det-axes}
 use Rattle.attitude.proofs.Upright.{second-upright, second-unit, third-upright, third-upright-second}
-use Rattle.attitude.specs.Frame.{Frame}
+use Rattle.attitude.specs.Frame.{third-by, Frame}
 
 -- the axes of a side are such
 pub side-frame : {l : ℕ} (v w : Vec3) → Apart v w → NearlyUnit l v → Frame l v (axes_of v w).t2 (axes_of v w).t3

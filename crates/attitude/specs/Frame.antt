@@ -79,7 +79,7 @@ module _ {l : ℕ} {a b c : Vec3} (f : Frame l a b c) where
   crossed = λ t. record { x = sym f.x.is t; y = sym f.y.is t; z = sym f.z.is t }
 
   -- it is as long as the first: the nearer that is to a unit, the better
-  third-by : {k m : ℕ} → l ≤ k → 16000000084000000000000000000 + k * 4000000000 ≤ 1000000000000000000 * m → Within m (dot_of c c -ℤ dot_of a a)
+  pub third-by : {k m : ℕ} → l ≤ k → 16000000084000000000000000000 + k * 4000000000 ≤ 1000000000000000000 * m → Within m (dot_of c c -ℤ dot_of a a)
   third-by few h =
       let α = wider f.first-long few in
       let β = f.second-long in

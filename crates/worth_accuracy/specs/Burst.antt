@@ -11,7 +11,6 @@ use Rattle.chain.specs.Chain.{listed, sights_of, tracked_of}
 use Rattle.chain_burst.specs.Burst.{frame_at, Call, size_of, frames_in, refusals_of, records_after}
 use Rattle.chain_burst.specs.Laws.{decoded-at}
 use Rattle.worth_accuracy.specs.Worth.{Worth}
-use Rattle.worth_accuracy.specs.Chain.{tracked-worth}
 
 module _ (c : Call) (whole : first_applying (refusals_of c) ≡ Accepted) (k : ℕ) (inside : k < frames_in c) where
   -- the single call on frame k, and what stands in its record
@@ -20,12 +19,3 @@ module _ (c : Call) (whole : first_applying (refusals_of c) ≡ Accepted) (k : �
 
   abbrev read_back : Record
   read_back = decoded (take record_size (drop (record_size * k) (records_after c)))
-
-  pub record-worth : (tracked_of single).outcome ≡ Accepted → Worth (sights_of (listed single).report c.catalogue c.settings) c.catalogue
-      (tracked_of single).stars read_back.matrix
-  record-worth accepted =
-      let read : (tracked_of single).matrix ≡ read_back.matrix =
-      sym (ap (λ (r : Record). r.matrix) (decoded-at c whole k inside c.room refl)
-      ∙ ap (λ (o : Outcome). (record_of o (tracked_of single).matrix).matrix) accepted) in
-      subst (Worth (sights_of (listed single).report c.catalogue c.settings) c.catalogue (tracked_of single).stars) read
-      (tracked-worth single accepted)

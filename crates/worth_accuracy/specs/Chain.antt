@@ -53,7 +53,7 @@ use Rattle.chain.specs.Ready.{Ready}
 use Rattle.chain.specs.AdmitLaws.{refusals-joined}
 use Rattle.chain.specs.ReadyLaws.{ready}
 use Rattle.chain.specs.ChainLaws.{sights-length, sights-count}
-use Rattle.worth_accuracy.specs.Worth.{Worth, orientation-worth}
+use Rattle.worth_accuracy.specs.Worth.{Worth}
 
 -- ---- a listed star's direction is nearly a unit
 
@@ -108,7 +108,7 @@ module _ (c : Call) (e : first_applying (refusals_of c) ≡ Accepted) where
       let a = otherwise-accepted (listed c).outcome (otherwise (first_applying (settings_rows s)) rest) (sym (refusals-joined c) ∙ e) in
       settings-kept s (otherwise-accepted (first_applying (settings_rows s)) rest a.1).0
 
-  threes : length sights ≡ 3 * directions_in sights
+  pub threes : length sights ≡ 3 * directions_in sights
   threes =
       let h = ready c e in
       omega (arith, sights-length report c.catalogue s h.few h.size, sights-count report c.catalogue s h.few h.size)
@@ -158,13 +158,6 @@ module _ (c : Call) (accepted : (tracked_of c).outcome ≡ Accepted) where
   unfolding tracked_of located_of settled_of
   tracked-stars = tracked-settled.stars
 
-  tracked-found : orientation_of directions (stars_of c.catalogue) ours.stars ≡ attitude.Found (tracked_of c).matrix
+  pub tracked-found : orientation_of directions (stars_of c.catalogue) ours.stars ≡ attitude.Found (tracked_of c).matrix
   unfolding tracked_of located_of settled_of
   tracked-found = tracked-settled.found
-
-  -- THE LAW
-  pub tracked-worth : Worth directions c.catalogue (tracked_of c).stars (tracked_of c).matrix
-  tracked-worth =
-      let e = tracked-settled.early in
-      subst (λ (words : List ℕ). Worth directions c.catalogue words (tracked_of c).matrix) (sym tracked-stars)
-      (orientation-worth directions c.catalogue ours.stars (tracked_of c).matrix (ready c e).catalogue (threes c e) (chain-units c e) tracked-found)

@@ -11,10 +11,9 @@ use Rattle.chain.specs.Chain.{listed, sights_of}
 use Rattle.chain_by_index.specs.Chain.{Call, refusals_of, tracked_of}
 use Rattle.chain_by_index.specs.Laws.{accepted-right, right-tracked, refused-tracked}
 use Rattle.worth_accuracy.specs.Worth.{Worth}
-use Rattle.worth_accuracy.specs.Chain.{tracked-worth}
 
 module _ (c : Call) (accepted : (tracked_of c).outcome ≡ Accepted) where
-  is_plain : tracked_of c ≡ plain.tracked_of c.chain
+  pub is_plain : tracked_of c ≡ plain.tracked_of c.chain
   is_plain = by (first_applying (refusals_of c)) refl
     where
       by : (o : Outcome) → first_applying (refusals_of c) ≡ o → tracked_of c ≡ plain.tracked_of c.chain
@@ -22,10 +21,3 @@ module _ (c : Call) (accepted : (tracked_of c).outcome ≡ Accepted) where
       by (Refused q) e =
           let refused : (tracked_of c).outcome ≡ Refused q = ap (λ (t : Tracked). t.outcome) (refused-tracked c q e) in
           contradiction (cc)
-
-  pub by-index-worth : Worth (sights_of (listed c.chain).report c.chain.catalogue c.chain.settings) c.chain.catalogue (tracked_of c).stars
-      (tracked_of c).matrix
-  by-index-worth =
-      subst (λ (t : Tracked). Worth (sights_of (listed c.chain).report c.chain.catalogue c.chain.settings) c.chain.catalogue t.stars
-      t.matrix) (sym is_plain)
-      (tracked-worth c.chain (sym (ap (λ (t : Tracked). t.outcome) is_plain) ∙ accepted))

@@ -5,6 +5,4 @@ pub mod Second
 pub mod Chain
 pub mod Index
 pub mod Burst
-pub mod Floats
 pub mod Names
-pub mod Every

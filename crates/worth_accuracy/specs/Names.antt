@@ -88,14 +88,6 @@ module _ (c : Call) where
             (wrong_name sights c.catalogue s.needed s.tolerance ranking contest contested judged truth i ours
             (λ e. wrong (ap (λ (xs : List ℕ). at xs i) words ∙ e)))
 
-        -- errors that the tolerance covers, and alone: no wrong name
-        pub chain-errors-covered :
-            {e d g : ℕ} (ideal : ℕ → Vec3) → Assigns (directions_in sights) (records_in c.catalogue) s.needed truth →
-            Measured sights (stars_of c.catalogue) truth ideal e d g (records_in c.catalogue) → tolerance_for d e ≤ s.tolerance →
-            (contested_of c).rival ≡ false → at (tracked_of c).stars i ≡ at truth i
-        chain-errors-covered ideal assigns measured wide alone =
-            chain-no-wrong-name (truth-fits sights c.catalogue s.needed s.tolerance truth ideal assigns measured wide) alone
-
 -- ---- the direction of a listed star against that of its true position x, y, each off by at most p
 
 seen-from : (a b c : ℤ) → a -ℤ b ≡ a -ℤ c -ℤ (b -ℤ c)

@@ -51,14 +51,14 @@ module _ {l : ℕ} {a b c : Vec3} (f : Frame l a b c) (few : l ≤ 1000000000000
   k : Rows (l + 24001000000) a b c
   k = rows f few
 
-  remade-x : Within (3000000000 * (l + 24001000000)) (sum_of a.x b.x c.x (dot_of v a) (dot_of v b) (dot_of v c) -ℤ pos 1000000000000000000 *ℤ v.x)
+  pub remade-x : Within (3000000000 * (l + 24001000000)) (sum_of a.x b.x c.x (dot_of v a) (dot_of v b) (dot_of v c) -ℤ pos 1000000000000000000 *ℤ v.x)
   remade-x =
       wider
       (within-as (made-x (pos 1000000000) a b c v)
       (within-add (within-add (within-mul k.xx w.x) (within-mul k.xy w.y)) (within-mul k.zx w.z)))
       (omega arith)
 
-  remade-y : Within (3000000000 * (l + 24001000000)) (sum_of a.y b.y c.y (dot_of v a) (dot_of v b) (dot_of v c) -ℤ pos 1000000000000000000 *ℤ v.y)
+  pub remade-y : Within (3000000000 * (l + 24001000000)) (sum_of a.y b.y c.y (dot_of v a) (dot_of v b) (dot_of v c) -ℤ pos 1000000000000000000 *ℤ v.y)
   remade-y =
       wider
       (within-as
@@ -70,7 +70,7 @@ module _ {l : ℕ} {a b c : Vec3} (f : Frame l a b c) (few : l ≤ 1000000000000
   twice : (u : Vec3) → dot_of (turn_of (turn_of v)) (turn_of (turn_of u)) ≡ dot_of v u
   twice u = sym (dot-turn v u ∙ dot-turn (turn_of v) (turn_of u))
 
-  remade-z : Within (3000000000 * (l + 24001000000)) (sum_of a.z b.z c.z (dot_of v a) (dot_of v b) (dot_of v c) -ℤ pos 1000000000000000000 *ℤ v.z)
+  pub remade-z : Within (3000000000 * (l + 24001000000)) (sum_of a.z b.z c.z (dot_of v a) (dot_of v b) (dot_of v c) -ℤ pos 1000000000000000000 *ℤ v.z)
   remade-z =
       wider
       (within-as
@@ -314,7 +314,7 @@ module _
         ≤ 1000000000000000000000000000000000000)
         (enough : 5600000000000000000000000000000 + i * 2000006000000000000 ≤ s * j)
       where
-        heights-near : Within j (known -ℤ seen)
+        pub heights-near : Within j (known -ℤ seen)
         heights-near =
             let a = cosine-small (dot_of w2 w1) known known-circle (lit≤ tt) (dec_le _ _) in
             let b = cosine-small (dot_of v2 v1) seen seen-circle (lit≤ tt) (dec_le _ _) in
@@ -330,91 +330,3 @@ module _
           where
             within : {k : ℕ} {z : ℤ} → nat_abs z ≤ k → Within k z
             within h = record { within = h }
-
-        -- ---- a row of the matrix times the second star
-
-        module _ (few : j ≤ 10000000000000000) where
-          row_carries :
-              {a b c : ℤ} (x : ℤ) →
-              Within 1000000000 a → Within 1000000000 b → Within 1000000600 c →
-              Within 1572003000000000000000 (sum_of a b c (dot_of v2 v1) (dot_of v2 (axes_of v1 v2).t2) seen -ℤ pos 1000000000000000000 *ℤ x) →
-              Within (i + j + 1600000000000) (dot_of (row_by a b c (axes_of w1 w2)) w2 -ℤ pos 1000000000 *ℤ x)
-          unfolding axes_of
-          row_carries {a} {b} {c} x p q r made =
-              let t = axes_of w1 w2 in
-              let u = axes_of v1 v2 in
-              within-as (ap (λ (n : ℤ). n -ℤ pos 1000000000 *ℤ x) (dot-comm w2 (row_by a b c t)))
-              (over-near-from (pos 1000000000 *ℤ x) w2 (mix_of a b c t.t1 t.t2 t.t3) (lit< tt) sky.second
-              (within-as (dot-mix-from (pos 1000000000) x a b c (dot_of v2 v1) (dot_of v2 u.t2) (dot_of v2 u.t3) w2 t.t1 t.t2 t.t3)
-              (within-add
-              (within-add
-              (within-add (within-mul p pairs) (within-mul q (within-sub (second-upright-other w1 w2 sky) (second-upright-other v1 v2 camera))))
-              (within-mul r heights-near))
-              made))
-              (omega arith))
-
-          -- THE LAW: by the pairs' difference i, the same over the sine, j, and 1.6 x 10^12
-          pub second-carries : Carries (i + j + 1600000000000) (matrix_of v1 v2 w1 w2) w2 v2
-          unfolding matrix_of axes_of
-          second-carries =
-              let f = side-frame v1 v2 camera first in
-              let small = third-small f (lit≤ tt) in
-              record {
-                x = row_carries v2.x f.first.x f.second.x small.x (remade-x f (lit≤ tt) v2 camera.second);
-                y = row_carries v2.y f.first.y f.second.y small.y (remade-y f (lit≤ tt) v2 camera.second);
-                z = row_carries v2.z f.first.z f.second.z small.z (remade-z f (lit≤ tt) v2 camera.second);
-              }
-
--- ---- so of every answer that is worth it: an accepted chain's, with or without an index, and a burst's
-
-module _
-    {directions : List ℤ} {bytes : List ℕ} {words : List ℕ} {m : Matrix} (w : Worth directions bytes words m)
-  where
-    abbrev pub v1 : Vec3
-    v1 = triple_at directions w.first
-
-    abbrev pub v2 : Vec3
-    v2 = triple_at directions w.second
-
-    abbrev pub w1 : Vec3
-    w1 = triple_at (stars_of bytes) (at words w.first)
-
-    abbrev pub w2 : Vec3
-    w2 = triple_at (stars_of bytes) (at words w.second)
-
-    pub second-carried :
-        {i j s : ℕ} →
-        Within i (dot_of w2 w1 -ℤ dot_of v2 v1) → 0 < s →
-        (s + 9000000000) * (s + 9000000000) + nat_abs (dot_of w2 w1) * nat_abs (dot_of w2 w1) + 300000000000000000000000000000
-        ≤ 1000000000000000000000000000000000000 →
-        5600000000000000000000000000000 + i * 2000006000000000000 ≤ s * j → j ≤ 10000000000000000 → Carries (i + j + 1600000000000) m w2 v2
-    second-carried {i} {j} pairs far sine enough few =
-        subst (λ (n : Matrix). Carries (i + j + 1600000000000) n w2 v2) (found-is v1 v2 w1 w2 m w.found)
-        (second-carries v1 v2 w1 w2 (camera-apart v1 v2 w1 w2 m w.found) (sky-apart v1 v2 w1 w2 m w.found)
-        (w.units w.first w.first-seen) (w.units w.second w.second-seen)
-        (w.stars (at words w.first) w.first-star) (w.stars (at words w.second) w.second-star)
-        pairs far sine enough few)
-
-    -- ---- by the tolerance: names that fit, as those of every accepted search do
-
-    two : w.first ≡ w.second → ⊥
-    two e =
-        let a = camera-apart v1 v2 w1 w2 m w.found in
-        let b : Apart v1 v1 = subst (λ (n : ℕ). Apart v1 (triple_at directions n)) (sym e) a in
-        omega (arith, b.apart, (close-is v1 v1).0 (same-close v1))
-
-    exchanged : (a b c d : Vec3) → pos 0 -ℤ (dot_of a b -ℤ dot_of c d) ≡ dot_of d c -ℤ dot_of b a
-    exchanged a b c d =
-        let f = vec 0 in let g = vec 3 in let h = vec 6 in let i = vec 9 in
-        ring (a ▹ b ▹ c ▹ d ▹ []) (num (pos 0) ⊖ (f ⊙ g ⊖ h ⊙ i)) (i ⊙ h ⊖ g ⊙ f) tt
-
-    pub second-by-tolerance :
-        {j s : ℕ} (needed tolerance : ℕ) → FitsHere (setup_for directions bytes needed tolerance) directions (stars_of bytes) words → 0 < s →
-        (s + 9000000000) * (s + 9000000000) + nat_abs (dot_of w2 w1) * nat_abs (dot_of w2 w1) + 300000000000000000000000000000
-        ≤ 1000000000000000000000000000000000000 →
-        5600000000000000000000000000000 + tolerance * 2000006000000000000 ≤ s * j → j ≤ 10000000000000000 → Carries (tolerance + j + 1600000000000) m w2 v2
-    unfolding agreement pair_dot
-    second-by-tolerance needed tolerance fits =
-        let agreed = fits.agreed w.first w.second w.first-seen w.second-seen two w.first-star w.second-star in
-        let near : Within tolerance (dot_of v1 v2 -ℤ dot_of w1 w2) = record { within = agreeing-near (dot_of v1 v2) (dot_of w1 w2) tolerance agreed } in
-        second-carried (within-as (exchanged v1 v2 w1 w2) (wider (within-sub (within-pos 0) near) (omega arith)))

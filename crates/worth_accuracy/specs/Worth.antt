@@ -154,11 +154,3 @@ module _
           back = seen-carried v1 v2 w1 w2 m found seen star;
           rotation = rotation v1 v2 w1 w2 m found seen star;
         }
-
--- and of any that an identification gave
-pub orientation-worth :
-    (directions : List ℤ) (bytes : List ℕ) (words : List ℕ) (m : Matrix) → Valid bytes → length directions ≡ 3 * directions_in directions →
-    ((k : ℕ) → k < directions_in directions → NearlyUnit 500000000000 (triple_at directions k)) →
-    orientation_of directions (stars_of bytes) words ≡ Found m → Worth directions bytes words m
-unfolding orientation_of
-orientation-worth directions bytes words m valid threes units found = attitude-worth directions bytes words m _ _ valid threes units found

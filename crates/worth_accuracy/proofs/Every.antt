@@ -10,8 +10,8 @@ use Rattle.chain.specs.NamesLaws.{tracked-names}
 use Rattle.chain.specs.rival.Chain.{contested_of}
 use Rattle.chain.specs.rival.Laws.{our-contested}
 use Rattle.worth_names.specs.Names.{BothName}
-use Rattle.worth_accuracy.specs.Chain.{tracked-worth}
-use Rattle.worth_accuracy.specs.Second.{v2, w1, w2, second-by-tolerance}
+use Rattle.worth_accuracy.proofs.Chain.{tracked-worth}
+use Rattle.worth_accuracy.proofs.Second.{v2, w1, w2, second-by-tolerance}
 use Rattle.worth_accuracy.specs.Names.{FitsFrame, chain-no-wrong-name, chain-wrong-name}
 
 module _ (c : Call) (accepted : (tracked_of c).outcome ≡ Accepted) where

@@ -3,7 +3,7 @@ use Rattle.std.specs.Prelude.{◌≡◌}
 use Rattle.refusal.specs.declared.Outcome.TheVariants.{Accepted}
 use Rattle.attitude_gimbal.specs.Near.{RowsSent, rotation-sent}
 use Rattle.chain.specs.Chain.{Call, tracked_of}
-use Rattle.worth_accuracy.specs.Chain.{tracked-worth}
+use Rattle.worth_accuracy.proofs.Chain.{tracked-worth}
 
 pub chain-sent : (c : Call) → (tracked_of c).outcome ≡ Accepted → RowsSent 2 (tracked_of c).matrix
 chain-sent c accepted = rotation-sent (tracked_of c).matrix (tracked-worth c accepted).rotation
