@@ -136,33 +136,3 @@ pub record RowsSent (parts : ℕ) (m : Matrix) : Type 0 where
   pub zx : Sent parts m.row2.x (rows_of m).row2.x
   pub zy : Sent parts m.row2.y (rows_of m).row2.y
   pub zz : Sent parts m.row2.z (rows_of m).row2.z
-
-small-root : (x : ℕ) → x * x ≤ 2000000000000000000 → Dec (x < 2000000000) → x < 2000000000
-small-root x h (yes k) = k
-small-root x h (no k) = let l : 2000000000 ≤ x = omega arith in absurd (omega (arith, mul-le-mul l l))
-
-row_small : (v : Vec3) → Within 600000000000 (dot_of v v -ℤ pos 1000000000000000000) → Within3 1999999999 v
-row_small v w =
-    let s = not-above (squares_of v) 1000000000000000000 (within-as (ap (λ (k : ℤ). k -ℤ pos 1000000000000000000) (dot-squares v)) w) in
-    record {
-      x = record { within = omega (arith, small-root (nat_abs v.x) (omega arith) (dec_lt (nat_abs v.x) 2000000000)) };
-      y = record { within = omega (arith, small-root (nat_abs v.y) (omega arith) (dec_lt (nat_abs v.y) 2000000000)) };
-      z = record { within = omega (arith, small-root (nat_abs v.z) (omega arith) (dec_lt (nat_abs v.z) 2000000000)) };
-    }
-
-pub rotation-sent : (m : Matrix) → NearlyRotation 600000000000 m → RowsSent 2 m
-rotation-sent m r =
-    let a = row_small m.row0 r.rows.xx in
-    let b = row_small m.row1 r.rows.yy in
-    let c = row_small m.row2 r.rows.zz in
-    record {
-      xx = entry-sent _ (omega (arith, a.x.within));
-      xy = entry-sent _ (omega (arith, a.y.within));
-      xz = entry-sent _ (omega (arith, a.z.within));
-      yx = entry-sent _ (omega (arith, b.x.within));
-      yy = entry-sent _ (omega (arith, b.y.within));
-      yz = entry-sent _ (omega (arith, b.z.within));
-      zx = entry-sent _ (omega (arith, c.x.within));
-      zy = entry-sent _ (omega (arith, c.y.within));
-      zz = entry-sent _ (omega (arith, c.z.within));
-    }

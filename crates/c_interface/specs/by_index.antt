@@ -1,2 +1,1 @@
 -- The numbers that the chain by an index hands over. Assumes nothing.
-pub mod ChainLaws

@@ -3,4 +3,3 @@ pub mod Rooms
 pub mod RoomLaws
 pub mod Guider
 pub mod ReadLaws
-pub mod ListLaws

@@ -36,7 +36,7 @@ module _ (xs room : List ℤ) (full : length xs ≡ size) (long : size ≤ lengt
 -- ---- the stars of directions
 
 -- one number each
-names-length : (f : ℕ → ℤ) (n : ℕ) → length (joined (λ (i : ℕ). f i ∷ []) n) ≡ n
+pub names-length : (f : ℕ → ℤ) (n : ℕ) → length (joined (λ (i : ℕ). f i ∷ []) n) ≡ n
 unfolding joined
 names-length f zero = refl
 names-length f (suc n) = length-append (joined (λ (i : ℕ). f i ∷ []) n) (f n ∷ []) ∙ omega (arith, names-length f n)
@@ -59,32 +59,3 @@ pub record Named (words : List ℕ) (directions stars : ℕ) : Type 0 where
   pub words-in : (i : ℕ) → i < directions → get_or words i 0 ≤ stars
   pub rest : (i : ℕ) → directions ≤ i → get_or words i 0 ≡ 0
   pub many : stars ≤ 9223372036854775808
-
-module _ (words : List ℕ) (directions stars : ℕ) (N : Named words directions stars) where
-  -- a star's number is read as its word, and -1 as none's
-  word_back : (i : ℕ) → word_in stars (name_at words directions stars i) ≡ get_or words i 0
-  word_back i = behind (leb directions i) refl
-    where
-      star : i < directions → (b : Bool) → leb stars (get_or words i 0) ≡ b → word_in stars (cond b (negsuc 0) (signed_of (get_or words i 0))) ≡ get_or words i 0
-      star l true e = omega (arith, leb-true stars (get_or words i 0) e, N.words-in i l)
-      star l false e = let h : get_or words i 0 < 9223372036854775808 = omega (arith, leb-false stars (get_or words i 0) e, N.many) in rw
-          (lt-ltb (get_or words i 0) 9223372036854775808 h)
-
-      behind : (b : Bool) → leb directions i ≡ b
-          → word_in stars (cond b (pos 0) (cond (leb stars (get_or words i 0)) (negsuc 0) (signed_of (get_or words i 0)))) ≡ get_or words i 0
-      behind true e = sym (N.rest i (leb-true directions i e))
-      behind false e = star (omega (arith, leb-false directions i e)) (leb stars (get_or words i 0)) refl
-
-  words_back : map (word_in stars) (names_numbers words directions stars) ≡ words
-  words_back =
-      let names = names_numbers words directions stars in
-      let l : length (map (word_in stars) names) ≡ 8 = length-map names (word_in stars) ∙ names-length (name_at words directions stars) 8 in
-      ext_get_or 0 (map (word_in stars) names) words (l ∙ sym N.size)
-      (λ i h. get_or-map (word_in stars) names i (pos 0) ∙ ap (word_in stars) (name-at (name_at words directions stars) 8 i (omega arith)) ∙ word_back i)
-
-  -- behind any numbers, the names are read as the words
-  pub words-read : (before rest : List ℤ) (at : ℕ) → length before ≡ at → words_at stars (before ++ (names_numbers words directions stars ++ rest)) at ≡ words
-  words-read before rest at e =
-      let names = names_numbers words directions stars in
-      ap (λ (xs : List ℤ). map (word_in stars) (take 8 xs)) (drop_at before (names ++ rest) at e)
-      ∙ ap (map (word_in stars)) (take_at names rest 8 (names-length (name_at words directions stars) 8)) ∙ words_back

@@ -38,14 +38,10 @@ use Rattle.chain.specs.Chain.{
   names_of,
 }
 use Rattle.chain.specs.Ready.{Ready, Names, Tracks}
-use Rattle.chain.specs.ReadyLaws.{Early, refused-early, ready}
+use Rattle.chain.specs.ReadyLaws.{Early}
 use Rattle.chain.specs.ChainLaws.{sights-count, our-search}
 use Rattle.chain.specs.SettledLaws.{settled-named, settled-none}
 use Rattle.chain.specs.NeverLaws.{located-late}
-
-number_in : Outcome → ℕ
-number_in Accepted = 0
-number_in (Refused q) = q.number
 
 -- what `chain::names` answers is the search's promise for the frame's own directions, whatever ranking is lent
 pub names-identified : (samples bytes : List ℕ) (s : Settings) (words : List ℕ)
@@ -57,37 +53,6 @@ names-identified samples bytes s words = computed-identified (sights_of (listing
 
 -- ---- the first that fits
 
-module _ (report : Report) (bytes : List ℕ) (s : Settings) where
-  pub our-identified : Identified (sights_of report bytes s) bytes s.needed s.tolerance (our_ranking report bytes s) (our_identification report bytes s)
-  unfolding our_identification
-  our-identified = computed-identified (sights_of report bytes s) bytes s.needed s.tolerance (our_ranking report bytes s)
-
-  located-is : located_of report bytes s ≡ settled_of report (sights_of report bytes s) bytes (our_identification report bytes s)
-  unfolding located_of
-  located-is = refl
-
-  located-names : (room : List ℕ) → Ready report bytes s room → Names report bytes s (located_of report bytes s)
-  located-names room h =
-      let f = (our-search report bytes s room h (our_identification report bytes s) our-identified).first in
-      record {
-        first = settled-named report (sights_of report bytes s) bytes (our_identification report bytes s) (located_of report bytes s) located-is _ _ f;
-        none = settled-none report (sights_of report bytes s) bytes (our_identification report bytes s) (located_of report bytes s) located-is _ _ f;
-      }
-
-  -- a refusal of another number names nothing, and denies nothing
-  pub refused-names : (q : Refusal) → (q.number ≡ number.no_fit → ⊥) → Names report bytes s (refused_with q)
-  unfolding number_in
-  refused-names q other = record { first = λ e. contradiction (cc); none = λ e. absurd (other (ap number_in e)) }
-
-module _ (c : Call) where
-  pub tracked-names : Tracks c (tracked_of c)
-  unfolding tracked_of
-  tracked-names = by (first_applying (refusals_of c)) refl
-    where
-      by : (o : Outcome) → first_applying (refusals_of c) ≡ o → Tracks c (tracked_of c)
-      by Accepted e = rw e (located-names (listed c).report c.catalogue c.settings c.room (ready c e))
-      by (Refused q) e = rw e (refused-names (listed c).report c.catalogue c.settings q (refused-early c q e).no-13)
-
 -- ---- the words of an accepted call
 
 -- the frame's own list, and the eight words of its directions, 0 behind them
@@ -97,33 +62,6 @@ pub record Whole (c : Call) (t : Tracked) : Type 0 where
   pub size : length t.stars ≡ 8
   pub rest : (k : ℕ) → (listed c).report.count ≤ k → at t.stars k ≡ 0
   pub many : records_in c.catalogue ≤ 512
-
-settled-words : (report : Report) (words : List ℕ) (a : Attitude) (u o : Outcome)
-    → (answered refused_with (answered refused_with (oriented report words a) u) o).outcome ≡ Accepted
-    → (o ≡ Accepted) × ((answered refused_with (answered refused_with (oriented report words a) u) o).report ≡ report)
-    × ((answered refused_with (answered refused_with (oriented report words a) u) o).stars ≡ words)
-settled-words report words a u (Refused q) e = contradiction (cc)
-settled-words report words a (Refused q) Accepted e = contradiction (cc)
-settled-words report words (attitude.Refused q) Accepted Accepted e = contradiction (cc)
-settled-words report words (attitude.Found m) Accepted Accepted e = (refl, refl, refl)
-
-pub tracked-whole : (c : Call) → (tracked_of c).outcome ≡ Accepted → Whole c (tracked_of c)
-unfolding tracked_of located_of settled_of
-tracked-whole c e =
-    let report = (listed c).report in
-    let ours = our_identification report c.catalogue c.settings in
-    let w = settled-words report ours.stars (orientation_of (sights_of report c.catalogue c.settings) (stars_of c.catalogue) ours.stars)
-    ours.outcome (first_applying (refusals_of c)) e in
-    let h = ready c w.0 in
-    let counted = sights-count report c.catalogue c.settings h.few h.size in
-    let f = our-search report c.catalogue c.settings c.room h ours (our-identified report c.catalogue c.settings) in
-    record {
-      report = w.1;
-      counted = counted;
-      size = ap length w.2 ∙ f.size;
-      rest = λ k l. ap (λ (xs : List ℕ). at xs k) w.2 ∙ f.rest k (omega arith);
-      many = h.catalogue.size.most;
-    }
 
 -- ---- the numbers that are given
 
@@ -135,37 +73,3 @@ pub record Numbered (q : Refusal) : Type 0 where
 
 pub early-numbered : (q : Refusal) → Early q.number → Numbered q
 early-numbered q a = record { some = a.some; last = a.last; none = λ e. absurd (a.no-13 e) }
-
-module _ (c : Call) where
-  -- where none of 1 to 12 and 19 applies, an accepted call, 13 or 14
-  pub tracked-late : first_applying (refusals_of c) ≡ Accepted
-      → ((tracked_of c).outcome ≡ Accepted) ⊎ (((tracked_of c).outcome ≡ refusal_of number.no_fit 0) ⊎ ((q : Refusal) × ((tracked_of c).outcome ≡ Refused q)
-      × (q.number ≡ number.close)))
-  unfolding tracked_of
-  tracked-late e = rw e (by (located_of (listed c).report c.catalogue c.settings).outcome refl)
-    where
-      by : (o : Outcome) → (located_of (listed c).report c.catalogue c.settings).outcome ≡ o
-          → ((located_of (listed c).report c.catalogue c.settings).outcome ≡ Accepted)
-          ⊎ (((located_of (listed c).report c.catalogue c.settings).outcome ≡ refusal_of number.no_fit 0)
-          ⊎ ((q : Refusal) × ((located_of (listed c).report c.catalogue c.settings).outcome ≡ Refused q) × (q.number ≡ number.close)))
-      by Accepted k = inl k
-      by (Refused q) k =
-          inr (⊎_elim (λ d. inl (k ∙ sym d)) (λ d. inr (q, k, d)) (located-late (listed c).report c.catalogue c.settings c.room (ready c e) q k))
-
-  pub tracked-numbered : (q : Refusal) → (tracked_of c).outcome ≡ Refused q → Numbered q
-  unfolding tracked_of number_in
-  tracked-numbered q h = by (first_applying (refusals_of c)) refl
-    where
-      by : (o : Outcome) → first_applying (refusals_of c) ≡ o → Numbered q
-      by (Refused r) e =
-          let n : r.number ≡ q.number = ap number_in (sym (ap (λ (o : Outcome).
-          (answered refused_with (located_of (listed c).report c.catalogue c.settings) o).outcome) e) ∙ h) in
-          let a = refused-early c r e in
-          record { some = omega (arith, a.some); last = omega (arith, a.last); none = λ m. absurd (a.no-13 (n ∙ m)) }
-      by Accepted e =
-          let k : (located_of (listed c).report c.catalogue c.settings).outcome ≡ Refused q
-          = sym (ap (λ (o : Outcome). (answered refused_with (located_of (listed c).report c.catalogue c.settings) o).outcome) e) ∙ h in
-          ⊎_elim
-          (λ (d : refusal_of number.no_fit 0 ≡ Refused q). let n = ap number_in d in record { some = omega arith; last = omega arith; none = λ m. sym d })
-          (λ (d : q.number ≡ number.close). record { some = omega arith; last = omega arith; none = λ m. absurd (omega arith) })
-          (located-late (listed c).report c.catalogue c.settings c.room (ready c e) q k)

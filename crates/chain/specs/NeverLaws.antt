@@ -28,10 +28,10 @@ use Rattle.chain.specs.declared.Tracked.{Tracked}
 use Rattle.attitude.specs.orient.Orient.{orientation_of}
 use Rattle.chain.specs.Chain.{Call, listed, refusals_of, refused_with, oriented, settled_of, sights_of, our_ranking, our_identification, located_of, tracked_of}
 use Rattle.chain.specs.Ready.{Ready}
-use Rattle.chain.specs.ReadyLaws.{Early, refused-early, ready}
+use Rattle.chain.specs.ReadyLaws.{Early}
 use Rattle.chain.specs.ChainLaws.{our-call, sights-listed, enough-sights}
 
-number_in : Outcome → ℕ
+pub number_in : Outcome → ℕ
 number_in Accepted = 0
 number_in (Refused r) = r.number
 
@@ -74,17 +74,3 @@ module _ (report : Report) (bytes : List ℕ) (s : Settings) (room : List ℕ) (
       (λ (k : (our_identification report bytes s).outcome ≡ Refused sought.no_fit).
       inl (sym (ap (λ (o : Outcome). (answered refused_with (oriented report (our_identification report bytes s).stars turned) o).outcome) k) ∙ e))
       search-known
-
-pub never : (c : Call) (q : Refusal) → (tracked_of c).outcome ≡ Refused q → (q.number ≡ number.directions → ⊥) × (q.number ≡ number.ranking → ⊥)
-unfolding tracked_of number_in
-never c q e = by (first_applying (refusals_of c)) refl
-  where
-    by : (o : Outcome) → first_applying (refusals_of c) ≡ o → (q.number ≡ number.directions → ⊥) × (q.number ≡ number.ranking → ⊥)
-    by (Refused r) k =
-        let n = ap number_in (sym (ap (λ (o : Outcome). (answered refused_with (located_of (listed c).report c.catalogue c.settings) o).outcome) k) ∙ e) in
-        let a = refused-early c r k in
-        ((λ m. a.no-8 (n ∙ m)), (λ m. a.no-11 (n ∙ m)))
-    by Accepted k =
-        let l = located-late (listed c).report c.catalogue c.settings c.room (ready c k) q
-        (sym (ap (λ (o : Outcome). (answered refused_with (located_of (listed c).report c.catalogue c.settings) o).outcome) k) ∙ e) in
-        ((λ m. ⊎_elim (λ a. omega (arith, ap number_in a)) (λ a. omega arith) l), (λ m. ⊎_elim (λ a. omega (arith, ap number_in a)) (λ a. omega arith) l))

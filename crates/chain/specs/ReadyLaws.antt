@@ -39,44 +39,7 @@ listing-sighted samples width height threshold =
 
 -- ---- the demand
 
-demand-says : (needed tolerance : ℕ) → demand_ok needed tolerance ≡ true → (3 ≤ needed) × (needed ≤ 8) × (tolerance ≤ 10000000000000000)
-unfolding demand_ok
-demand-says needed tolerance e =
-    let a = (and-eq-true_iff (leb 3 needed && leb needed 8) (leb tolerance 10000000000000000)).0 e in
-    let b = (and-eq-true_iff (leb 3 needed) (leb needed 8)).0 a.0 in
-    (leb-true 3 needed b.0, leb-true needed 8 b.1, leb-true tolerance 10000000000000000 a.1)
-
-demand-rows : (s : Settings) (words count : ℕ) → first_applying (demand_rows s words count) ≡ Accepted → (demand_ok s.needed s.tolerance ≡ true)
-    × (4096 ≤ words) × (s.needed ≤ count)
-unfolding demand_rows Silent
-demand-rows s words count e =
-    let a = accepted-silent (demand_rows s words count) e in
-    (not-false (demand_ok s.needed s.tolerance) a.0, ltb-false words 4096 a.1.0, ltb-false count s.needed a.1.1.0)
-
 -- ---- the call
-
-pub ready : (c : Call) → first_applying (refusals_of c) ≡ Accepted → Ready (listed c).report c.catalogue c.settings c.room
-ready c e =
-    let s = c.settings in
-    let stars = first_applying (catalogue.refusals_of c.catalogue) in
-    let demand = first_applying (demand_rows s (length c.room) (listed c).report.count) in
-    let a = otherwise-accepted (listed c).outcome (otherwise (first_applying (settings_rows s)) (otherwise stars demand)) (sym (refusals-joined c) ∙ e) in
-    let b = otherwise-accepted (first_applying (settings_rows s)) (otherwise stars demand) a.1 in
-    let k = otherwise-accepted stars demand b.1 in
-    let d = demand-rows s (length c.room) (listed c).report.count k.1 in
-    let q = demand-says s.needed s.tolerance d.0 in
-    let v = listing-sighted c.samples s.width s.height s.threshold in
-    record {
-      few = v.few;
-      placed = v.placed;
-      size = v.size;
-      catalogue = accepted-valid c.catalogue k.0;
-      least = q.0;
-      most = q.1;
-      near = q.2;
-      enough = d.2;
-      long = d.1;
-    }
 
 -- the numbers that are given before anything is written: of the table, not 8 or 11, which cannot arise, and not 13 or 14, which come behind the ranking
 pub record Early (n : ℕ) : Type 0 where
@@ -103,17 +66,3 @@ early n e =
       no-13 = λ k. contradiction (sym (ap is_early k) ∙ e);
       no-14 = λ k. contradiction (sym (ap is_early k) ∙ e);
     }
-
-refusals-early : (c : Call) → Every Early (refusals_of c)
-unfolding refusals_of settings_rows demand_rows catalogue_rows Every is_early
-refusals-early c =
-    let s = c.settings in
-    let f = frame_rows c.samples s.width s.height s.threshold in
-    let k = catalogue.refusals_of c.catalogue in
-    let d = demand_rows s (length c.room) (listed c).report.count in
-    every_append Early f (settings_rows s ++ (k ++ d)) (early 1 refl, (early 2 refl, (early 3 refl, (early 4 refl, tt))))
-    (every_append Early (settings_rows s) (k ++ d) (early 19 refl, (early 5 refl, tt))
-    (every_append Early k d (early 6 refl, (early 7 refl, tt)) (early 9 refl, (early 10 refl, (early 12 refl, tt)))))
-
-pub refused-early : (c : Call) (q : Refusal) → first_applying (refusals_of c) ≡ Refused q → Early q.number
-refused-early c = applying-every Early (refusals_of c) (refusals-early c)

@@ -25,7 +25,6 @@ use Rattle.chain.specs.Chain.{
   room_after,
 }
 use Rattle.chain.specs.ChainLaws.{words-most, our-length}
-use Rattle.chain.specs.ReadyLaws.{ready}
 
 module _ (samples bytes : List ℕ) (s : Settings) where
   pub any-room : (before after : List ℕ) → length before ≡ length after → tracked_of (call samples bytes s before) ≡ tracked_of (call samples bytes s after)
@@ -35,23 +34,3 @@ module _ (samples bytes : List ℕ) (s : Settings) where
       let rows = frame_rows samples s.width s.height s.threshold in
       ap (λ (n : ℕ). answered refused_with (located_of report bytes s) (first_applying
       (rows ++ (settings_rows s ++ (catalogue.refusals_of bytes ++ demand_rows s n report.count))))) e
-
-pub room-length : (c : Call) → length (room_after c) ≡ length c.room
-unfolding room_after ranked_room
-room-length c = by (first_applying (refusals_of c)) refl
-  where
-    by : (o : Outcome) → first_applying (refusals_of c) ≡ o → length (answered (λ r. c.room)
-        (ranked_room (listed c).report c.catalogue c.settings c.room) o) ≡ length c.room
-    by (Refused r) e = refl
-    by Accepted e =
-        let report = (listed c).report in
-        let words = report.count * records_in c.catalogue in
-        let h = ready c e in
-        omega (
-          arith,
-          length-append (our_ranking report c.catalogue c.settings) (drop words c.room),
-          length-drop words c.room,
-          our-length report c.catalogue c.settings c.room h,
-          words-most report c.catalogue c.settings c.room h,
-          h.long,
-        )

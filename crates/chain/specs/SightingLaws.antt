@@ -15,7 +15,7 @@ use Rattle.chain.specs.Sighting.{padded_sights, sighting_of, sighted}
 use Rattle.chain.specs.Ready.{Ready, RankingStands}
 use Rattle.chain.specs.AdmitLaws.{refusals-joined}
 use Rattle.chain.specs.ChainLaws.{sights-array, sights-front}
-use Rattle.chain.specs.ReadyLaws.{listing-sighted, ready}
+use Rattle.chain.specs.ReadyLaws.{listing-sighted}
 
 -- the part of the array that is lent: three numbers for each listed star
 pub record Lent (report : Report) (directions : List ℤ) (bytes : List ℕ) (s : Settings) : Type 0 where
@@ -43,33 +43,3 @@ sighting-lent samples stars s words bytes r e =
     subst (λ (x : Sighting). Lent x.report x.directions bytes s) (sym e) (padded-lent _ _ bytes s v.few v.size refl)
 
 -- ---- a call of the chain
-
-module _ (c : Call) (r : Sighting) (e : r ≡ sighted c) where
-  pub sighted-lent : Lent r.report r.directions c.catalogue c.settings
-  sighted-lent = sighting-lent c.samples (first_applying (catalogue.refusals_of c.catalogue)) c.settings (length c.room) c.catalogue r e
-
-  pub sighted-report : r.report ≡ (listed c).report
-  sighted-report = ap (λ (x : Sighting). x.report) e
-
-  -- the outcome is the first refusal of the table
-  pub sighted-outcome : {o : Outcome} → r.outcome ≡ o → first_applying (refusals_of c) ≡ o
-  sighted-outcome h = refusals-joined c ∙ sym (ap (λ (x : Sighting). x.outcome) e) ∙ h
-
-  pub refused-room : (q : Refusal) → r.outcome ≡ Refused q → room_after c ≡ c.room
-  unfolding room_after
-  refused-room q h = ap (answered (λ (x : Refusal). c.room) (ranked_room (listed c).report c.catalogue c.settings c.room)) (sighted-outcome h)
-
-  module _ (h : r.outcome ≡ Accepted) where
-    pub accepted-room : room_after c ≡ ranked_room r.report c.catalogue c.settings c.room
-    unfolding room_after
-    accepted-room =
-        ap (answered (λ (x : Refusal). c.room) (ranked_room (listed c).report c.catalogue c.settings c.room)) (sighted-outcome h)
-        ∙ ap (λ (x : Report). ranked_room x c.catalogue c.settings c.room) (sym sighted-report)
-
-    pub sighted-ready : Ready r.report c.catalogue c.settings c.room
-    sighted-ready = subst (λ (x : Report). Ready x c.catalogue c.settings c.room) (sym sighted-report) (ready c (sighted-outcome h))
-
-    -- what the search is handed
-    pub ranking-stands : (room : List ℕ) → room ≡ room_after c → RankingStands r.report (take (3 * r.report.count) r.directions) c.catalogue
-        c.settings room
-    ranking-stands room k = record { before = c.room; ready = sighted-ready; sights = sighted-lent.front; ranked = k ∙ accepted-room }

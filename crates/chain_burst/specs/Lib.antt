@@ -3,5 +3,4 @@ pub mod Burst
 pub mod Admit
 pub mod OneMore
 pub mod Laws
-pub mod Alike
 pub mod records

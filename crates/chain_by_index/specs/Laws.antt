@@ -25,6 +25,7 @@ use Rattle.chain.specs.declared.Tracked.{Tracked}
 use Rattle.chain.specs.Ready.{Names, Tracks}
 use Rattle.chain.specs.ReadyLaws.{Early, is_early, early}
 use Rattle.chain.specs.NamesLaws as names
+use Rattle.chain.proofs.NamesLaws as names-laws
 use Rattle.chain_by_index.specs.Chain.{Call, index_rows, stars_rows, refusals_of, tracked_of, room_after}
 
 -- ---- 17
@@ -178,14 +179,14 @@ module _ (c : Call) where
 
   pub tracked-names : Tracks c.chain (tracked_of c)
   tracked-names =
-      by_index (Tracks c.chain) (λ _. names.tracked-names c.chain)
-      (λ q a. names.refused-names (listed c.chain).report c.chain.catalogue c.chain.settings q a.no-13)
+      by_index (Tracks c.chain) (λ _. names-laws.tracked-names c.chain)
+      (λ q a. names-laws.refused-names (listed c.chain).report c.chain.catalogue c.chain.settings q a.no-13)
 
   pub tracked-numbered : (q : Refusal) → (tracked_of c).outcome ≡ Refused q → names.Numbered q
   tracked-numbered q =
-      by_index (λ (t : Tracked). t.outcome ≡ Refused q → names.Numbered q) (λ _. names.tracked-numbered c.chain q)
+      by_index (λ (t : Tracked). t.outcome ≡ Refused q → names.Numbered q) (λ _. names-laws.tracked-numbered c.chain q)
       (λ r a e. let d : r ≡ q = cc in subst names.Numbered d (names.early-numbered r a))
 
   pub tracked-whole : (tracked_of c).outcome ≡ Accepted → names.Whole c.chain (tracked_of c)
   tracked-whole =
-      by_index (λ (t : Tracked). t.outcome ≡ Accepted → names.Whole c.chain t) (λ _. names.tracked-whole c.chain) (λ q a e. contradiction (cc))
+      by_index (λ (t : Tracked). t.outcome ≡ Accepted → names.Whole c.chain t) (λ _. names-laws.tracked-whole c.chain) (λ q a e. contradiction (cc))

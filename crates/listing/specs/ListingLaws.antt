@@ -11,7 +11,7 @@ use Rattle.refusal.specs.Table.{first_applying, answered}
 use Rattle.catalogue.specs.Format.{records_in}
 use Rattle.chain.specs.Chain.{Call, listed, refusals_of, refused_with, located_of, ranked_room, our_identification, tracked_of, room_after, names_of}
 use Rattle.chain.specs.ChainLaws.{words-most, room-front, room-long}
-use Rattle.chain.specs.ReadyLaws.{refused-early, ready}
+use Rattle.chain.proofs.ReadyLaws.{refused-early, ready}
 use Rattle.listing.specs.Listing.{Refuses}
 
 module _ (c : Call) (r : Refusal) (ranking : List ℕ) (h : Refuses c r ranking) (e : r.number ≡ number.close) where

@@ -2,6 +2,4 @@
 pub mod Call
 pub mod Stars
 pub mod Steps
-pub mod Laws
-pub mod Alike
 pub mod votes

@@ -37,16 +37,6 @@ module _ (directions stars : List ℤ) (records : ℕ) (index : List ℕ) (floor
 
 -- ---- of decoded stars
 
-module _ (directions stars : List ℤ) (index : List ℕ) (floor : ℤ) (tolerance words : ℕ) where
-  pub wrong-from : is_index stars floor index ≡ false → outcome_from directions stars index floor tolerance words ≡ refusal_of number.index 0
-  unfolding outcome_from
-  wrong-from e = wrong-index directions stars (triples stars) index floor tolerance words e
-
-  pub right-from : is_index stars floor index ≡ true → outcome_from directions stars index floor tolerance words
-      ≡ first_applying (rows_beside directions (triples stars) tolerance words)
-  unfolding outcome_from
-  right-from e = right-index directions stars (triples stars) index floor tolerance words e
-
 module _ (directions stars : List ℤ) (index : List ℕ) (floor : ℤ) (tolerance : ℕ) (room : List ℕ) where
   pub refused-from : (r : Refusal) → outcome_from directions stars index floor tolerance (length room) ≡ Refused r
       → room_from directions stars index floor tolerance room ≡ room
@@ -59,29 +49,3 @@ module _ (directions stars : List ℤ) (index : List ℕ) (floor : ℤ) (toleran
   written_from e = rw e
 
 -- ---- of the catalogue's bytes
-
-module _ (c : Call) where
-  abbrev behind : Outcome
-  behind = first_applying (rows_behind c.directions (stars_of c.catalogue) (records_in c.catalogue) c.index c.floor c.tolerance
-      (length c.room))
-
-  -- the catalogue's outcome first
-  pub joined : {o : Outcome} → first_applying (catalogue.refusals_of c.catalogue) ≡ o → outcome_of c ≡ otherwise o behind
-  unfolding outcome_of refusals_of
-  joined e = applying-append (catalogue.refusals_of c.catalogue) _ ∙ ap (λ (o : Outcome). otherwise o behind) e
-
-  pub refused-room : (r : Refusal) → outcome_of c ≡ Refused r → room_after c ≡ c.room
-  unfolding room_after
-  refused-room r e = rw e
-
-  -- a valid one: the rest is as of its stars
-  module _ (v : Valid c.catalogue) where
-    counted : triples (stars_of c.catalogue) ≡ records_in c.catalogue
-    counted = omega (arith, valid-length c.catalogue v)
-
-    pub valid-outcome : outcome_of c ≡ outcome_from c.directions (stars_of c.catalogue) c.index c.floor c.tolerance (length c.room)
-    unfolding outcome_from
-    valid-outcome =
-        joined (valid-accepted c.catalogue v)
-        ∙ ap (λ (n : ℕ). first_applying (rows_behind c.directions (stars_of c.catalogue) n c.index c.floor c.tolerance (length c.room)))
-        (sym counted)

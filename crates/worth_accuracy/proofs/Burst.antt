@@ -9,7 +9,7 @@ use Rattle.chain_burst.specs.records.Record.{Record, record_size, record_of, dec
 use Rattle.chain.specs.Chain as chain
 use Rattle.chain.specs.Chain.{listed, sights_of, tracked_of}
 use Rattle.chain_burst.specs.Burst.{frame_at, Call, size_of, frames_in, refusals_of, records_after}
-use Rattle.chain_burst.specs.Laws.{decoded-at}
+use Rattle.chain_burst.proofs.Laws.{decoded-at}
 use Rattle.worth_accuracy.specs.Worth.{Worth}
 use Rattle.worth_accuracy.proofs.Chain.{tracked-worth}
 

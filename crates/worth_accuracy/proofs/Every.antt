@@ -6,7 +6,7 @@ use Rattle.vectors.specs.Vectors.{dot_of}
 use Rattle.search_theory.specs.Order.{at}
 use Rattle.attitude.specs.Nearly.{Carries}
 use Rattle.chain.specs.Chain.{Call, listed, sights_of, tracked_of}
-use Rattle.chain.specs.NamesLaws.{tracked-names}
+use Rattle.chain.proofs.NamesLaws.{tracked-names}
 use Rattle.chain.specs.rival.Chain.{contested_of}
 use Rattle.chain.specs.rival.Laws.{our-contested}
 use Rattle.worth_names.specs.Names.{BothName}

@@ -1,7 +1,8 @@
 -- THE ROWS THAT ARE SENT TO THE GIMBAL for a matrix of an accepted chain are within 2 parts in 10^16 of it, entry by entry. Assumes nothing.
 use Rattle.std.specs.Prelude.{◌≡◌}
 use Rattle.refusal.specs.declared.Outcome.TheVariants.{Accepted}
-use Rattle.attitude_gimbal.specs.Near.{RowsSent, rotation-sent}
+use Rattle.attitude_gimbal.specs.Near.{RowsSent}
+use Rattle.attitude_gimbal.proofs.Near.{rotation-sent}
 use Rattle.chain.specs.Chain.{Call, tracked_of}
 use Rattle.worth_accuracy.proofs.Chain.{tracked-worth}
 

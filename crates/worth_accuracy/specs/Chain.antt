@@ -51,7 +51,7 @@ use Rattle.chain.specs.Chain.{
 }
 use Rattle.chain.specs.Ready.{Ready}
 use Rattle.chain.specs.AdmitLaws.{refusals-joined}
-use Rattle.chain.specs.ReadyLaws.{ready}
+use Rattle.chain.proofs.ReadyLaws.{ready}
 use Rattle.chain.specs.ChainLaws.{sights-length, sights-count}
 use Rattle.worth_accuracy.specs.Worth.{Worth}
 

@@ -16,9 +16,6 @@ unfolding with_guides
 length-guides guides zero room = refl
 length-guides guides (suc n) room = rw (length-set, length-set, length-set, length-set) (length-guides guides n room)
 
-pub length-guider : (g : Guider) (room : List ℤ) → length (with_guider g room) ≡ length room
-length-guider g room = length-guides g.guides 4 _ ∙ rw (length-set, length-set)
-
 -- ---- numbers that are read as themselves
 
 -- what is read as a number of 63 bits is that number

@@ -16,14 +16,16 @@ use Rattle.search.specs.Answered.{FitsCall}
 use Rattle.chain.specs.declared.Tracked.{Tracked}
 use Rattle.chain.specs.Chain.{Call, listed, sights_of, our_ranking, tracked_of}
 use Rattle.chain.specs.Ready.{Tracks}
-use Rattle.chain.specs.NamesLaws.{Whole, Numbered, tracked-names, tracked-whole, tracked-numbered}
+use Rattle.chain.specs.NamesLaws.{Whole, Numbered}
+use Rattle.chain.proofs.NamesLaws.{tracked-names, tracked-whole, tracked-numbered}
 use Rattle.c_numbers.specs.Room.{size, handed_over}
 use Rattle.numbers.specs.TwosComplement.{signed_of}
 use Rattle.c_numbers.specs.Numbers.{refused_numbers, accepted_numbers, outcome_numbers}
 use Rattle.c_numbers.specs.Stars.{joined, name_at, names_numbers}
 use Rattle.c_numbers.specs.Matrix.{matrix_numbers}
 use Rattle.c_numbers.specs.Places.{number_place, own_place, chain_names_place, chain_matrix_place, read_at, matrix_at, words_at}
-use Rattle.c_numbers.specs.PlaceLaws.{Named, words-read, read-handed, words-handed}
+use Rattle.c_numbers.specs.PlaceLaws.{Named, read-handed, words-handed}
+use Rattle.c_numbers.proofs.PlaceLaws.{words-read}
 use Rattle.c_interface.specs.frame.Frame.{report_numbers}
 use Rattle.c_interface.specs.track.Chain.{chain_numbers}
 
@@ -116,7 +118,3 @@ module _ (c : Call) (t : Tracked) (names : Tracks c t) (numbered : (q : Refusal)
             first = λ h. absurd (omega (arith, ap nat_abs (sym head ∙ h), k.some));
             none = λ h. names.none (e ∙ k.none (ap nat_abs (sym head ∙ h)));
           }
-
--- a caller who lends 64 numbers
-pub chain-told : (c : Call) (room : List ℤ) → size ≤ length room → Told c (handed_over (chain_numbers (records_in c.catalogue) (tracked_of c)) room)
-chain-told c = told c (tracked_of c) (tracked-names c) (tracked-numbered c) (tracked-whole c)

@@ -13,8 +13,9 @@ use Rattle.frame_list.specs.declared.Report.{Report}
 use Rattle.chain.specs.declared.Tracked.{Tracked}
 use Rattle.chain.specs.Chain.{Call, call, listed, refusals_of, refused_with, located_of, tracked_of}
 use Rattle.chain.specs.Ready.{Names}
-use Rattle.chain.specs.ReadyLaws.{refused-early}
-use Rattle.chain.specs.SightingLaws.{Lent, sighted-lent, sighted-report, sighted-outcome, ranking-stands}
+use Rattle.chain.proofs.ReadyLaws.{refused-early}
+use Rattle.chain.specs.SightingLaws.{Lent}
+use Rattle.chain.proofs.SightingLaws.{sighted-lent, sighted-report, sighted-outcome, ranking-stands}
 use Rattle.chain.proofs.track.Statement.{statement}
 use Rattle.chain.proofs.track.Tie as tie
 

@@ -9,7 +9,8 @@ use Rattle.refusal.specs.Counted.{count_answer}
 use Rattle.frame_list.specs.input.InputLaws.{size-most}
 use Rattle.chain_burst.specs.Burst.{Call, call, refusals_of}
 use Rattle.chain_burst.specs.Admit.{size-some, accepted-size, accepted-whole, answers}
-use Rattle.chain_burst.specs.Laws.{accepted-answer, accepted-records, accepted-room, refused-answer, refused-records, refused-room}
+use Rattle.chain_burst.specs.Laws.{refused-answer, refused-records, refused-room}
+use Rattle.chain_burst.proofs.Laws.{accepted-answer, accepted-records, accepted-room}
 use Rattle.chain_burst.proofs.track.Statement.{statement}
 use Rattle.chain_burst.proofs.track.Tie as tie
 

@@ -9,10 +9,10 @@ use lib.Seq.{sets}
 use Rattle.refusal.specs.Answer.{answer_of}
 use Rattle.chain.specs.declared.Tracked.{Tracked}
 use Rattle.chain.specs.Chain.{call, tracked_of, room_after}
-use Rattle.chain.specs.BoundLaws.{tracked-low}
+use Rattle.chain.proofs.BoundLaws.{tracked-low}
 use Rattle.chain_burst.specs.Burst.{frame_at, record_bytes}
 use Rattle.chain_burst.specs.Admit.{frame-fits}
-use Rattle.chain_burst.specs.OneMore.{Passed, none_passed, passed-more}
+use Rattle.chain_burst.proofs.OneMore.{Passed, none_passed, passed-more}
 use Rattle.chain_burst.proofs.track_frames.Statement.{statement}
 use Rattle.chain_burst.proofs.track_frames.Tie as tie
 

@@ -14,7 +14,7 @@ use Rattle.catalogue_index.specs.Index.{index_of}
 use Rattle.catalogue_index.specs.BuildLaws.{valid-listed}
 use Rattle.ranking_by_index.specs.Call.{call}
 use Rattle.ranking_by_index.specs.Stars.{room_from}
-use Rattle.ranking_by_index.specs.Laws.{right-room, valid-room}
+use Rattle.ranking_by_index.proofs.Laws.{right-room, valid-room}
 use Rattle.chain.specs.Chain.{sights_of, ranked_room}
 use Rattle.chain.specs.ChainLaws.{room-ranked}
 use Rattle.chain.specs.SightingLaws.{Lent, padded-lent}

@@ -14,7 +14,7 @@ use Rattle.chain.specs.declared.sight.Sighting.{Sighting}
 use Rattle.chain.specs.Chain.{listed, located_of, ranked_room}
 use Rattle.chain.specs.Sighting.{padded_sights, sighting_of}
 use Rattle.chain.specs.Ready.{Ready}
-use Rattle.chain.specs.ReadyLaws.{ready}
+use Rattle.chain.proofs.ReadyLaws.{ready}
 use Rattle.chain_by_index.specs.Chain.{Call, call, stars_rows, refusals_of}
 use Rattle.chain_by_index.specs.Laws.{refusals-joined, refused-tracked, refused-room, accepted-right, accepted-plain, accepted-tracked, accepted-room}
 use Rattle.chain_by_index.proofs.track.Statement.{statement}

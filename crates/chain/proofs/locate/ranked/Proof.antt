@@ -10,7 +10,8 @@ use Rattle.ranking.specs.Room as ranking
 use Rattle.chain.specs.Chain.{Call, call}
 use Rattle.chain.specs.ChainLaws.{room-ranked}
 use Rattle.chain.specs.Sighting.{sighting_of, sighted}
-use Rattle.chain.specs.SightingLaws.{Lent, sighted-lent, sighted-ready, refused-room, accepted-room}
+use Rattle.chain.specs.SightingLaws.{Lent}
+use Rattle.chain.proofs.SightingLaws.{sighted-lent, sighted-ready, refused-room, accepted-room}
 use Rattle.chain.proofs.locate.ranked.Statement.{statement}
 use Rattle.chain.proofs.locate.ranked.Tie as tie
 

@@ -8,7 +8,8 @@ use Rattle.refusal.specs.declared.Outcome.TheVariants.{Accepted, Refused}
 use Rattle.refusal.specs.Table.{first_applying, answered}
 use Rattle.frame_list.specs.declared.Report.{Report}
 use Rattle.chain.specs.Chain.{Call, call, listed, refusals_of}
-use Rattle.chain.specs.SightingLaws.{Lent, sighted-lent, sighted-report, sighted-outcome, ranking-stands}
+use Rattle.chain.specs.SightingLaws.{Lent}
+use Rattle.chain.proofs.SightingLaws.{sighted-lent, sighted-report, sighted-outcome, ranking-stands}
 use Rattle.search_rival.specs.Contested.{refused_with}
 use Rattle.chain.specs.rival.Chain.{our_contest, contested_of}
 use Rattle.chain.proofs.rival.contest.Statement.{statement}

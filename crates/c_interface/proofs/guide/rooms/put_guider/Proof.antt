@@ -8,7 +8,7 @@ use lib.ListN.{length, set, length-set}
 use mir.Syntax.{w64}
 use Rattle.numbers.specs.Num.{kept}
 use Rattle.c_interface.specs.guide.Rooms.{with_guides}
-use Rattle.c_interface.specs.guide.RoomLaws.{length-guider}
+use Rattle.c_interface.proofs.guide.RoomLaws.{length-guider}
 use Rattle.c_interface.proofs.guide.rooms.put_guider.Statement.{statement}
 use Rattle.c_interface.proofs.guide.rooms.put_guider.Tie as tie
 

@@ -40,7 +40,8 @@ use Rattle.c_numbers.specs.Stars.{joined}
 use Rattle.c_interface.specs.frame.Frame.{listing_numbers}
 use Rattle.c_interface.specs.guide.Rooms.{size, unsigned_of, number_in, guider_in, outcome_in, report_in, listing_in}
 use Rattle.c_interface.specs.guide.Guider.{framed_in, frame_room, frame_outcome}
-use Rattle.c_interface.specs.guide.ReadLaws.{signed_back, frame-read}
+use Rattle.c_interface.specs.guide.ReadLaws.{signed_back}
+use Rattle.c_interface.proofs.guide.ReadLaws.{frame-read}
 
 -- ---- the guider looks at positions alone
 

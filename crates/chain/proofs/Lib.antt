@@ -1,0 +1,7 @@
+-- The laws of the definitions in specs/.
+pub mod BoundLaws
+pub mod NamesLaws
+pub mod NeverLaws
+pub mod ReadyLaws
+pub mod RoomLaws
+pub mod SightingLaws
