@@ -4,5 +4,5 @@ pub mod Equal
 pub mod Kinds
 pub mod Laws
 pub mod StepLaws
-pub mod Walk
+pub mod WalkLaws
 pub mod Written

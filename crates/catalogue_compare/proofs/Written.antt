@@ -16,7 +16,7 @@ use Rattle.catalogue_compare.specs.Places.{Rises}
 use Rattle.catalogue_compare.specs.Encoded.{encoded-length, encoded-append}
 use Rattle.catalogue_compare.specs.Step.{step_of}
 use Rattle.catalogue_compare.specs.Walk.{told, Walked, so_far, walk_start, so-far-none}
-use Rattle.catalogue_compare.proofs.Walk.{so-far-part, walk-next, walk-kind, so-far-next, so-far-all}
+use Rattle.catalogue_compare.proofs.WalkLaws.{so-far-part, walk-next, walk-kind, so-far-next, so-far-all}
 use Rattle.catalogue_compare.specs.Written.{told_bytes, Written}
 
 told-bytes : (kind : ℕ → ℕ) (s : Step) → s.kind ≡ kind s.identity → told_bytes s ≡ encoded kind (told s)

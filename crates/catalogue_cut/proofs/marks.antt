@@ -1,2 +1,2 @@
 -- The laws of the definitions in specs/.
-pub mod Judge
+pub mod JudgeLaws

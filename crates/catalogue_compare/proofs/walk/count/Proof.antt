@@ -6,7 +6,7 @@ use lib.ListN.{length}
 use Rattle.catalogue.specs.Format.{records_in}
 use Rattle.catalogue_compare.specs.Places.{Rises, valid-rises}
 use Rattle.catalogue_compare.specs.Walk.{told, told_none, told-one, Counted, counted_start}
-use Rattle.catalogue_compare.proofs.Walk.{walk-further, counted_next, counted-all}
+use Rattle.catalogue_compare.proofs.WalkLaws.{walk-further, counted_next, counted-all}
 use borrow.Author.Rules.{rules}
 use Rattle.catalogue_compare.proofs.walk.count.Statement.{statement}
 use Rattle.catalogue_compare.proofs.walk.count.Tie as tie

@@ -6,7 +6,7 @@ use lib.ListN.{length}
 use lib.Seq.{length-sets}
 use Rattle.catalogue.specs.Format.{records_in}
 use Rattle.catalogue_compare.specs.Places.{Rises, valid-rises}
-use Rattle.catalogue_compare.proofs.Walk.{walk-further}
+use Rattle.catalogue_compare.proofs.WalkLaws.{walk-further}
 use Rattle.catalogue_compare.specs.Written.{told_bytes, Written, written_start}
 use Rattle.catalogue_compare.proofs.Written.{written-room, written_next, written_all}
 use borrow.Author.Rules.{rules}

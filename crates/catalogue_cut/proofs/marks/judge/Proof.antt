@@ -15,7 +15,7 @@ use Rattle.catalogue.specs.Stars.{stars_of}
 use Rattle.catalogue.specs.Lent.{lent-within, lent-stars}
 use Rattle.catalogue_cut.specs.Flight.{is_bright}
 use Rattle.catalogue_cut.specs.marks.Marks.{faint_mark, AllLooked}
-use Rattle.catalogue_cut.proofs.marks.Judge.{valid-listed, star-count, all_settled}
+use Rattle.catalogue_cut.proofs.marks.JudgeLaws.{valid-listed, star-count, all_settled}
 use Rattle.catalogue_cut.proofs.marks.judge.Statement.{statement}
 use Rattle.catalogue_cut.proofs.marks.judge.Tie as tie
 
