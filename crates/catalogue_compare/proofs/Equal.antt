@@ -17,7 +17,7 @@ use Rattle.catalogue_compare.specs.Changes.{place_of, has, fields, field_of, dif
 use Rattle.catalogue_compare.specs.DifferLaws.{differ-none, differ_same}
 use Rattle.catalogue_compare.specs.Places.{Rises, valid-rises}
 use Rattle.catalogue_compare.specs.Kinds.{Way, only-first, only-second, differing, same, neither}
-use Rattle.catalogue_compare.proofs.Kinds.{way}
+use Rattle.catalogue_compare.proofs.KindLaws.{way}
 use Rattle.catalogue_compare.specs.Encoded.{changes-length}
 use Rattle.catalogue_compare.specs.Laws.{Has}
 use Rattle.catalogue_compare.proofs.Laws.{has_some, the-place, some-has, listed-passing, kind-lists}

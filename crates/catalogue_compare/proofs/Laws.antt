@@ -14,7 +14,7 @@ use Rattle.catalogue_compare.specs.Changes.{place_of, has, differ, kind_of, is_l
 use Rattle.catalogue_compare.specs.DifferLaws.{differ-some, differ-any}
 use Rattle.catalogue_compare.specs.Places.{Rises, valid-rises, place_is, place_none, place-has}
 use Rattle.catalogue_compare.specs.Kinds.{kind-first, kind-second, kind-both, Way, only-first, only-second, differing, same, neither}
-use Rattle.catalogue_compare.proofs.Kinds.{way}
+use Rattle.catalogue_compare.proofs.KindLaws.{way}
 use Rattle.lists.proofs.Below.{Passing, passing}
 use Rattle.catalogue_compare.specs.Encoded.{changes-length}
 use Rattle.catalogue_compare.specs.Read.{identity_at, kind_at, read-identity, read-kind}

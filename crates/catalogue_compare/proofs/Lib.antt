@@ -1,7 +1,7 @@
 -- The laws of the definitions in specs/.
 pub mod CompareSteps
 pub mod Equal
-pub mod Kinds
+pub mod KindLaws
 pub mod Laws
 pub mod StepLaws
 pub mod WalkLaws

@@ -29,7 +29,7 @@ use Rattle.catalogue_index.specs.CheckLaws.{is-index, index-true, no_index}
 use Rattle.ranking_by_index.specs.Call.{Call, rows_behind, refusals_of, outcome_of, room_after, answer_for}
 use Rattle.ranking_by_index.specs.Stars.{room_from}
 use Rattle.ranking_by_index.specs.Steps.{wrong-index, right-index, written_from, refused-from}
-use Rattle.ranking_by_index.proofs.Steps.{joined, refused-room, valid-outcome}
+use Rattle.ranking_by_index.proofs.StepLaws.{joined, refused-room, valid-outcome}
 
 module _ (c : Call) where
   abbrev test : Bool

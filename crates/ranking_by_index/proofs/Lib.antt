@@ -1,4 +1,4 @@
 -- The laws of the definitions in specs/.
 pub mod Alike
 pub mod Laws
-pub mod Steps
+pub mod StepLaws

@@ -19,7 +19,7 @@ use Rattle.vectors.specs.Triples.{Listed}
 use Rattle.catalogue_index.specs.BuildLaws.{valid-listed}
 use Rattle.ranking_by_index.specs.Call.{Call, call, outcome_of, room_after, answer_for}
 use Rattle.ranking_by_index.specs.Stars.{outcome_from, room_from}
-use Rattle.ranking_by_index.proofs.Steps.{joined, refused-room, valid-outcome}
+use Rattle.ranking_by_index.proofs.StepLaws.{joined, refused-room, valid-outcome}
 use Rattle.ranking_by_index.proofs.Laws.{answers, valid-room}
 use borrow.Author.Rules.{rules}
 use Rattle.ranking_by_index.proofs.rank.Statement.{statement}

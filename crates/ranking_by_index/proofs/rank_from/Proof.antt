@@ -9,7 +9,7 @@ use Rattle.catalogue_index.specs.Check.{is_index}
 use Rattle.catalogue_index.specs.CheckLaws.{index-true}
 use Rattle.ranking_by_index.specs.Stars.{outcome_from, room_from}
 use Rattle.ranking_by_index.specs.Steps.{refused-from}
-use Rattle.ranking_by_index.proofs.Steps.{wrong-from}
+use Rattle.ranking_by_index.proofs.StepLaws.{wrong-from}
 use borrow.Author.Rules.{rules}
 use Rattle.ranking_by_index.proofs.rank_from.Statement.{statement}
 use Rattle.ranking_by_index.proofs.rank_from.Tie as tie

@@ -18,7 +18,7 @@ use Rattle.catalogue_index.specs.Check.{is_index}
 use Rattle.catalogue_index.specs.CheckLaws.{is-index}
 use Rattle.ranking_by_index.specs.Stars.{outcome_from}
 use Rattle.ranking_by_index.specs.Steps.{refused-from, written_from}
-use Rattle.ranking_by_index.proofs.Steps.{right-from}
+use Rattle.ranking_by_index.proofs.StepLaws.{right-from}
 use borrow.Author.Rules.{rules}
 use Rattle.ranking_by_index.proofs.rank_right.Statement.{statement}
 use Rattle.ranking_by_index.proofs.rank_right.Tie as tie

@@ -16,7 +16,7 @@ use Rattle.catalogue_index.specs.Index.{index_of}
 use Rattle.catalogue_index.specs.BuildLaws.{valid-listed}
 use Rattle.ranking_by_index.specs.Call.{Call, call}
 use Rattle.ranking_by_index.specs.Stars.{outcome_from, room_from}
-use Rattle.ranking_by_index.proofs.Steps.{joined, refused-room, valid-outcome}
+use Rattle.ranking_by_index.proofs.StepLaws.{joined, refused-room, valid-outcome}
 use Rattle.ranking_by_index.proofs.Laws.{valid-room}
 use borrow.Author.Rules.{rules}
 use Rattle.ranking_by_index.proofs.rank_trusting_index.Statement.{statement}
