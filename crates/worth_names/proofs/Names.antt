@@ -15,7 +15,6 @@ use Rattle.search_fit.specs.Fit.{FitsHere}
 use Rattle.search.specs.Identified.{setup_for, identification_of}
 use Rattle.search_rival.specs.declared.Contest.{Contest}
 use Rattle.search_rival.specs.Contested.{Contested}
-
 use Rattle.worth_names.specs.Names.{FitsCall, BothName, no-wrong-name}
 
 module _
