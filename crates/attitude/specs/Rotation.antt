@@ -23,6 +23,6 @@ use Rattle.attitude.specs.Frame.{Frame, third-small, third-near, gap, det-near, 
 
 -- three numbers, as a side has them in a row
 pub record Three (a b c : ℤ) : Type 0 where
-  first : Within 1000000000 a
-  second : Within 1000000000 b
-  third : Within 1000000600 c
+  pub first : Within 1000000000 a
+  pub second : Within 1000000000 b
+  pub third : Within 1000000600 c
