@@ -31,7 +31,7 @@ use Rattle.chain.specs.Ready.{Ready}
 use Rattle.chain.specs.ReadyLaws.{Early}
 use Rattle.chain.specs.ChainLaws.{our-call, sights-listed, enough-sights}
 
-pub number_in : Outcome → ℕ
+unfoldable pub number_in : Outcome → ℕ
 number_in Accepted = 0
 number_in (Refused r) = r.number
 
