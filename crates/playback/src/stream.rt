@@ -2,11 +2,10 @@
 ghost use Rattle.std.specs.Prelude.{◌≡◌, ◌≤◌, ◌<◌, length, drop};
 ghost use Rattle.playback.specs.Half.{signed_half};
 
-use std::fs::File;
 use std::io::Read;
 
 // Reads until the room is full, the file ends or a read fails. What is left of the room stays as it was.
-fn fill(file: &mut File, room: &mut [u8]) {
+fn fill(file: &mut impl Read, room: &mut [u8]) {
     let mut done = 0;
     for _ in 0..room.len() {
         let n = file.read(&mut room[done..]).unwrap_or(0);
@@ -46,26 +45,26 @@ fn number(bytes: &[u8], at: usize, n: usize) -> u64 {
 }
 
 // The next byte of the file, and 0 at its end.
-pub fn byte(file: &mut File) -> u64 {
+pub fn byte(file: &mut impl Read) -> u64 {
     let mut one = [0u8; 1];
     fill(file, &mut one);
     number(&one, 0, 1)
 }
 
 // The next word of the file, 8 bytes.
-pub fn word(file: &mut File) -> u64 {
+pub fn word(file: &mut impl Read) -> u64 {
     let mut eight = [0u8; 8];
     fill(file, &mut eight);
     number(&eight, 0, 8)
 }
 
 // The next word, of which the last 4 bytes count.
-pub fn half(file: &mut File) -> u32 {
+pub fn half(file: &mut impl Read) -> u32 {
     (word(file) % 0x1_0000_0000) as u32
 }
 
 // The next word as a float's bits.
-pub fn float(file: &mut File) -> f64 {
+pub fn float(file: &mut impl Read) -> f64 {
     floats::float_of(word(file))
 }
 
@@ -110,7 +109,7 @@ fn repeat(room: &mut [u8], from: usize, to: usize) {
 }
 
 // Reads one patch, an element's index and its bytes, into the element's place.
-fn patch(file: &mut File, width: usize, room: &mut [u8])
+fn patch(file: &mut impl Read, width: usize, room: &mut [u8])
     requires { width ≤ 8 }
 {
     let at = size_of(word(file), width, room.len());
@@ -121,7 +120,7 @@ fn patch(file: &mut File, width: usize, room: &mut [u8])
     fill(file, &mut room[at..end]);
 }
 
-fn patches(file: &mut File, width: usize, room: &mut [u8])
+fn patches(file: &mut impl Read, width: usize, room: &mut [u8])
     requires { width ≤ 8 }
 {
     let count = word(file);
@@ -131,7 +130,7 @@ fn patches(file: &mut File, width: usize, room: &mut [u8])
 }
 
 // Reads a buffer of elements of some bytes each into the room, and answers how many bytes it has.
-pub fn expand(file: &mut File, width: usize, room: &mut [u8]) -> usize
+pub fn expand(file: &mut impl Read, width: usize, room: &mut [u8]) -> usize
     requires { width ≤ 8 }
     ensures { result ≤ length room.new }
 {
@@ -210,7 +209,7 @@ fn doubles(bytes: &[u8], room: &mut [f64]) -> usize
 }
 
 // Reads a buffer of samples or of ranking words, and answers how many it has. `bytes` is room to expand it in.
-pub fn read_words(file: &mut File, bytes: &mut [u8], room: &mut [u16]) -> usize
+pub fn read_words(file: &mut impl Read, bytes: &mut [u8], room: &mut [u16]) -> usize
     ensures upper_bound { result ≤ length room.new }
     ensures room_unchanged { drop result room.new ≡ drop result room.old }
 {
@@ -219,7 +218,7 @@ pub fn read_words(file: &mut File, bytes: &mut [u8], room: &mut [u16]) -> usize
 }
 
 // Reads a buffer of directions.
-pub fn read_directions(file: &mut File, bytes: &mut [u8], room: &mut [i32]) -> usize
+pub fn read_directions(file: &mut impl Read, bytes: &mut [u8], room: &mut [i32]) -> usize
     ensures upper_bound { result ≤ length room.new }
     ensures room_unchanged { drop result room.new ≡ drop result room.old }
 {
@@ -228,7 +227,7 @@ pub fn read_directions(file: &mut File, bytes: &mut [u8], room: &mut [i32]) -> u
 }
 
 // Reads a buffer of the attitude's numbers, or of a matrix.
-pub fn read_wholes(file: &mut File, bytes: &mut [u8], room: &mut [i64]) -> usize
+pub fn read_wholes(file: &mut impl Read, bytes: &mut [u8], room: &mut [i64]) -> usize
     ensures upper_bound { result ≤ length room.new }
     ensures room_unchanged { drop result room.new ≡ drop result room.old }
 {
@@ -237,7 +236,7 @@ pub fn read_wholes(file: &mut File, bytes: &mut [u8], room: &mut [i64]) -> usize
 }
 
 // Reads a buffer of floats.
-pub fn read_floats(file: &mut File, bytes: &mut [u8], room: &mut [f64]) -> usize
+pub fn read_floats(file: &mut impl Read, bytes: &mut [u8], room: &mut [f64]) -> usize
     ensures upper_bound { result ≤ length room.new }
     ensures room_unchanged { drop result room.new ≡ drop result room.old }
 {

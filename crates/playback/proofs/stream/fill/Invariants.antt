@@ -2,4 +2,4 @@ use Rattle.std.proofs.Common.{◌≤◌, length}
 use Rattle.playback.proofs.stream.fill.Given as goal
 
 abbrev pub invariant-loop : goal.invariant-loop
-invariant-loop l = l.done ≤ length l.room
+invariant-loop g l = l.done ≤ length l.room
