@@ -5,3 +5,4 @@ pub mod NeverLaws
 pub mod ReadyLaws
 pub mod RoomLaws
 pub mod SightingLaws
+pub mod ToldLaws

@@ -2,7 +2,7 @@
 use borrow.Author.Rules.{rules}
 use mathlib.Core.Path.{ap, ◌∙◌}
 use Rattle.refusal.specs.Table.{otherwise}
-use Rattle.chain.specs.ToldLaws.{admit-told}
+use Rattle.chain.proofs.ToldLaws.{admit-told}
 use Rattle.chain.proofs.admit.outcome.Statement.{statement}
 use Rattle.chain.proofs.admit.outcome.Tie as tie
 
