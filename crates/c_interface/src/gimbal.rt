@@ -26,13 +26,15 @@ fn put_cosines_in(matrix: &[i64], rows: &mut [f64]) -> Gimbal
     ensures rows_after { rows.new ≡ cosines_room matrix.now rows.old }
     ensures value { result ≡ cosines_of matrix.now rows.old }
 {
-    if rows.len() < 9 {
+    let is_short = rows.len() < 9;
+    if is_short {
         return Gimbal::Refused(Refusal {
             number: refusal::RECORDS_ROOM,
             place: 0,
         });
     }
-    if matrix.len() != 9 {
+    let is_no_matrix = matrix.len() != 9;
+    if is_no_matrix {
         return Gimbal::Refused(Refusal {
             number: refusal::ENTRY,
             place: 0,
@@ -59,7 +61,8 @@ fn put_turned(rows: &[f64], target: &[f64], turned: &mut [f64]) -> Outcome
     ensures turned_after { turned.new ≡ turned_room rows.now target.now turned.old }
     ensures value { result ≡ turned_outcome (length rows.now) (length target.now) (length turned.old) }
 {
-    if target.len() != 3 {
+    let is_no_target = target.len() != 3;
+    if is_no_target {
         return refusal::plain(refusal::DIRECTIONS);
     }
     if turned.len() < 3 {

@@ -67,7 +67,8 @@ fn put_frame(guider: &mut [i64], list: &[i64]) -> Outcome
     if guider.len() != rooms::NUMBERS {
         return refusal::plain(refusal::GUIDER);
     }
-    if list.len() != 64 {
+    let is_no_list = list.len() != 64;
+    if is_no_list {
         return refusal::plain(refusal::GUIDER);
     }
     let framed = frame_in(&guider[0..18], list);

@@ -63,6 +63,7 @@ pub extern "C" fn mnemathor_search(
 }
 
 // The attitude of four vectors, three numbers each: camera v1 and v2, star v1 and v2. Another count of numbers is no list of four: refusal 8.
+#[tactic(auto, unfolding(crate::specs::identify::Attitude::attitude_in))]
 fn attitude_in(vectors: &[i64]) -> Attitude
     ensures { result ≡ attitude_in vectors.now }
 {

@@ -202,7 +202,8 @@ pub fn put_names(
 pub fn hand_over(out: &mut [i64], flat: [i64; 64])
     ensures { out.new ≡ handed_over flat out.old }
 {
-    if out.len() < 64 {
+    let is_short = out.len() < 64;
+    if is_short {
         return;
     }
     let mut i: usize = 0;

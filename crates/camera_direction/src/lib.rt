@@ -22,6 +22,7 @@ pub enum Direction {
 }
 
 // Whether a list holds at most 8 directions, three numbers each, every number within ±10^9.
+#[tactic(auto, unfolding(crate::specs::List::list_ok))]
 pub fn list_ok(directions: &[i32]) -> bool
     ensures { result ≡ list_ok directions.now }
 {

@@ -15,7 +15,8 @@ fn norm(x: i64, y: i64, focal: i64) -> u64
     let a = numbers::abs(x);
     let b = numbers::abs(y);
     let c = numbers::abs(focal);
-    numbers::root(65536 * (a * a + b * b + c * c))
+    let cc = c * c;
+    numbers::root(65536 * (a * a + b * b + cc))
 }
 
 // The direction of the ray through the position.

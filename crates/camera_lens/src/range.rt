@@ -6,7 +6,8 @@ ghost use Rattle.camera_lens.specs.Lens.{in_range, whole_of};
 pub(crate) fn in_range(q: f64) -> bool
     ensures { result ≡ in_range q }
 {
-    if q >= 64.0 {
+    let is_above = q >= 64.0;
+    if is_above {
         return q < 16384.00390625;
     }
     false

@@ -8,7 +8,8 @@ use crate::RECORD_SIZE;
 fn signed(w: u32) -> i32
     ensures { result ≡ signed_of w }
 {
-    if w < 2147483648 {
+    let is_lower = w < 2147483648;
+    if is_lower {
         return w as i32;
     }
     (w as i64 - 4294967296) as i32

@@ -33,10 +33,12 @@ fn direction_ok(x: i64, y: i64, z: i64) -> bool
     if !numbers::within(z, LARGEST) {
         return false;
     }
-    numbers::within(x * x + y * y + z * z - SQUARE_SUM, SLACK)
+    let zz = z * z;
+    numbers::within(x * x + y * y + zz - SQUARE_SUM, SLACK)
 }
 
 // Whether a star may have this magnitude.
+#[tactic(auto, unfolding(crate::specs::Rule::magnitude_ok))]
 fn magnitude_ok(m: i32) -> bool
     ensures { result ≡ magnitude_ok m }
 {

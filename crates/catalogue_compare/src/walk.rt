@@ -30,7 +30,8 @@ pub(crate) fn count(first: &[u8], second: &[u8]) -> usize
     let mut j: usize = 0;
     while i + j < most {
         let s = step::advance(first, second, i, j);
-        if s.kind != 0 {
+        let is_change = s.kind != 0;
+        if is_change {
             found += 1;
         }
         i = s.first;

@@ -20,7 +20,8 @@ fn cut_valid(bytes: &mut [u8], limit: i32, closeness: i64) -> Counted
 {
     let marks = marks::judge(bytes, limit, closeness);
     let kept = shift::forward(bytes, &marks);
-    if kept == 0 {
+    let is_bare = kept == 0;
+    if is_bare {
         return Counted::Refused(Refusal {
             number: refusal::NOTHING_KEPT,
             place: 0,

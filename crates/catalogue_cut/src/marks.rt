@@ -51,7 +51,8 @@ fn meets(stars: &[i32], closeness: i64, star: Vec3, b: usize, mark: u8) -> bool
     requires b_bound { b < triples stars.now }
     ensures { result ≡ meets_by closeness (dot_of star (triple_at stars.now b)) mark }
 {
-    if mark == FAINT {
+    let is_faint = mark == FAINT;
+    if is_faint {
         return false;
     }
     closeness <= vectors::dot(star, vectors::triple_at(stars, b))
@@ -64,7 +65,8 @@ fn crowd(stars: &[i32], closeness: i64, a: usize, marks: &mut [u8])
     ensures { (bright : ℕ → Bool) → Judged bright stars.now closeness a marks.old
         → Judged bright stars.now closeness (a + 1) marks.new }
 {
-    if marks[a] == FAINT {
+    let is_faint = marks[a] == FAINT;
+    if is_faint {
         return;
     }
     let star = vectors::triple_at(stars, a);

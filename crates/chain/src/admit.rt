@@ -50,7 +50,8 @@ fn demand_outcome(settings: Settings, words: usize, count: usize) -> Outcome
     if words < ROOM {
         return refusal::plain(refusal::ROOM);
     }
-    if count < needed {
+    let is_few = count < needed;
+    if is_few {
         return refusal::plain(refusal::FEW);
     }
     Outcome::Accepted

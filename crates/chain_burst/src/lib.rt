@@ -26,7 +26,8 @@ fn outcome(width: usize, height: usize, samples: usize, records: usize) -> Outco
         return refusal::plain(refusal::SIZE);
     }
     let size = width * height;
-    if samples % size != 0 {
+    let is_broken = samples % size != 0;
+    if is_broken {
         return refusal::plain(refusal::SAMPLES);
     }
     if MOST_FRAMES * size < samples {

@@ -59,7 +59,8 @@ pub fn compare_text(first: &[u8], second: &[u8], room: &mut [u8]) -> usize
     ensures room_after { room.new ≡ room_with 32768 room.old (compare_text first.now second.now) }
     ensures upper_bound { result ≤ 29696 }
 {
-    if room.len() < ROOM {
+    let is_short = room.len() < ROOM;
+    if is_short {
         return 0;
     }
     let mut list = [0u8; 8192];

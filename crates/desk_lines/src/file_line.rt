@@ -59,7 +59,8 @@ pub fn whole_line(room: &mut [u8], said: Said) -> usize
     ensures room_after { room.new ≡ room_with 128 room.old (said_line said) }
     ensures upper_bound { result ≤ 72 }
 {
-    if room.len() < crate::LINE {
+    let is_short = room.len() < crate::LINE;
+    if is_short {
         return 0;
     }
     line(room, said)

@@ -90,7 +90,8 @@ pub fn why(settings: &[u8], frame: &[u8], row: usize, column: usize, room: &mut 
     ensures room_after { room.new ≡ room_with 128 room.old (why_text settings.now frame.now row column) }
     ensures upper_bound { result ≤ 72 }
 {
-    if room.len() < crate::LINE {
+    let is_short = room.len() < crate::LINE;
+    if is_short {
         return 0;
     }
     let reading = files::read_settings(settings);

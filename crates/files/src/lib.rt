@@ -26,7 +26,8 @@ pub fn read_settings(bytes: &[u8]) -> Reading
     ensures value { result ≡ reading_of bytes.now }
     ensures result_value { reading_answer result ≡ answer_for bytes.now }
 {
-    if bytes.len() != SETTINGS_SIZE {
+    let is_other_size = bytes.len() != SETTINGS_SIZE;
+    if is_other_size {
         return Reading::Refused(Refusal {
             number: refusal::SIZE,
             place: 0,
@@ -71,7 +72,8 @@ pub fn read_samples(bytes: &[u8], width: usize, height: usize, room: &mut [u16])
     ensures room_after { room.new ≡ samples_of bytes.now result ++ drop result room.old }
 {
     let count = sample_count(bytes.len(), width, height);
-    if room.len() < count {
+    let is_short = room.len() < count;
+    if is_short {
         return 0;
     }
     let mut i: usize = 0;

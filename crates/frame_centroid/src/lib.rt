@@ -124,6 +124,7 @@ pub fn moments_at(
 }
 
 // The position along one side, in 1/256 pixel: the fraction is added or taken away, each quotient rounded toward zero.
+#[tactic(auto, unfolding(crate::specs::Moments::position))]
 fn place(base: usize, moment: u64, brightness: u64) -> u64
     requires { (0 < brightness) × (brightness ≤ 65536 * 600) × (moment ≤ 4 * brightness) × (3 ≤ base) × (base < 65536) }
     ensures { result ≡ position base moment brightness }

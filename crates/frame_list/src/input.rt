@@ -46,7 +46,8 @@ fn look_for_over(samples: &[u16]) -> usize
 {
     let mut i: usize = 0;
     while i < samples.len() {
-        if LARGEST < samples[i] {
+        let is_over = LARGEST < samples[i];
+        if is_over {
             return i;
         }
         i += 1;
@@ -58,7 +59,8 @@ fn look_for_over(samples: &[u16]) -> usize
 fn first_over(samples: &[u16]) -> usize
     ensures { result ≡ first_over samples.now }
 {
-    if largest(samples) <= LARGEST {
+    let is_whole = largest(samples) <= LARGEST;
+    if is_whole {
         return samples.len();
     }
     look_for_over(samples)

@@ -113,6 +113,7 @@ pub fn values_of(reason: Reason) -> Values
 }
 
 // Of the sides that are too near a pixel, the first in the order left, right, top, bottom.
+#[tactic(auto, unfolding(crate::specs::Side::first_side))]
 fn first_side(width: usize, height: usize, row: usize, column: usize) -> Side
     requires { (row < height) × (column < width) }
     ensures { result ≡ first_side width height row column }

@@ -53,6 +53,7 @@ fn is_dark(
 }
 
 // Whether fewer than 3 columns or rows lie between the pixel and a side.
+#[tactic(auto, unfolding(crate::specs::Verdict::edge))]
 fn is_edge(width: usize, height: usize, row: usize, column: usize) -> bool
     requires { (row < height) × (column < width) }
     ensures { result ≡ edge width height row column }

@@ -18,7 +18,8 @@ pub fn sample(samples: &[u16], width: usize, height: usize, row: usize, column: 
     requires { (length samples.now ≡ height * width) × (row < height) × (column < width) }
     ensures { result ≡ at samples.now width row column }
 {
-    samples[row * width + column]
+    let place = row * width + column;
+    samples[place]
 }
 
 // Where a window starts along one side. The comparison comes first: there is nothing left of place 0.

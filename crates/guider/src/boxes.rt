@@ -105,11 +105,13 @@ fn guide_after(guider: Guider, report: Report, i: usize, guide: Guide) -> Guide
     requires { (guider.count ≤ 4) × (report.count ≤ 8) × (guide ≡ guide_at guider i) }
     ensures { result ≡ guide_after guider report i }
 {
-    if DROPPED <= guide.misses {
+    let is_dropped = DROPPED <= guide.misses;
+    if is_dropped {
         return guide;
     }
     let sight = look(guider.half, guide, report);
-    if sight.count != 1 {
+    let is_unclear = sight.count != 1;
+    if is_unclear {
         return missed(guide);
     }
     let star = sight.star;

@@ -73,7 +73,8 @@ pub(crate) fn guider_ok(guider: Guider) -> bool
     if WIDEST < guider.half {
         return false;
     }
-    if 4 < guider.count {
+    let is_crowded = 4 < guider.count;
+    if is_crowded {
         return false;
     }
     let guides = guider.guides;
@@ -92,7 +93,8 @@ pub(crate) fn guider_ok(guider: Guider) -> bool
 pub(crate) fn list_ok(report: Report) -> bool
     ensures { result ≡ list_ok report }
 {
-    if 8 < report.count {
+    let is_crowded = 8 < report.count;
+    if is_crowded {
         return false;
     }
     let stars = report.stars;

@@ -147,7 +147,8 @@ fn write_asked(
         (asked_text asked settings.now frame.now catalogue.now) }
     ensures upper_bound { result ≤ most_of asked }
 {
-    if room.len() < ROOM {
+    let is_short = room.len() < ROOM;
+    if is_short {
         return 0;
     }
     match files::read_settings(settings) {

@@ -16,7 +16,8 @@ pub fn beside(directions: &[i32], stars: usize, tolerance: u64, words: usize) ->
     if !camera_direction::list_ok(directions) {
         return refusal::plain(refusal::DIRECTIONS);
     }
-    if LARGEST_TOLERANCE < tolerance {
+    let is_wide = LARGEST_TOLERANCE < tolerance;
+    if is_wide {
         return refusal::plain(refusal::DEMAND);
     }
     if words < directions.len() / 3 * stars {

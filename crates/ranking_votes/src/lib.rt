@@ -75,7 +75,8 @@ fn agreeing_near(
     requires all_marked { AllMarked near.now products.now tolerance }
     ensures { result ≡ number count (agrees_with products.now i p tolerance) }
 {
-    if near::mark_at(near, p) == 0 {
+    let is_far = near::mark_at(near, p) == 0;
+    if is_far {
         return 0;
     }
     agreeing_with(products, count, i, p, tolerance)

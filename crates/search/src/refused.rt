@@ -7,6 +7,7 @@ use crate::{RankingTest, lent};
 use refusal::{Counted, Outcome};
 
 // Whether the needed count and the tolerance are in range.
+#[tactic(auto, unfolding(crate::specs::Refusals::demand_ok))]
 pub(crate) fn demand_ok(needed: usize, tolerance: u64) -> bool
     ensures { result ≡ demand_ok needed tolerance }
 {

@@ -81,7 +81,8 @@ fn stands_beside(
         j -= 1;
         let other = index(chosen[j]);
         if other < count {
-            if other == star {
+            let is_taken = other == star;
+            if is_taken {
                 return false;
             }
             if !agrees(dots[j], stars, tolerance, other, star) {
@@ -134,7 +135,8 @@ pub fn passes(
 {
     let place = newest.place;
     let dot = newest.dot;
-    if newest.star == star {
+    let is_taken = newest.star == star;
+    if is_taken {
         return false;
     }
     if !span::agrees_with(dot, place, stars, tolerance, star) {

@@ -77,7 +77,8 @@ fn upright_beside(
     while j < k {
         let first = index(chosen[j]);
         if first < count {
-            if is_mirrored(turns[j * 8 + k], stars, first, second, star) {
+            let pair = j * 8 + k;
+            if is_mirrored(turns[pair], stars, first, second, star) {
                 return false;
             }
         }

@@ -56,7 +56,8 @@ pub fn signed(room: &mut [u8], at: usize, z: i64) -> usize
     ensures upper_bound { result ≤ at + 21 }
 {
     let size = numbers::abs(z);
-    if z < 0 {
+    let is_negative = z < 0;
+    if is_negative {
         let next = byte(room, at, b'-');
         return number(room, next, size);
     }

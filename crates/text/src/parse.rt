@@ -17,7 +17,8 @@ fn with_digit(value: usize, byte: u8) -> Parsed
     if byte < b'0' {
         return Parsed::NoNumber;
     }
-    if b'9' < byte {
+    let is_above = b'9' < byte;
+    if is_above {
         return Parsed::NoNumber;
     }
     let digit = (byte - b'0') as usize;
@@ -32,7 +33,8 @@ pub fn parse_number(word: &[u8]) -> Parsed
     ensures value { result ≡ parsed_of word.now }
     ensures result_value { numbers_of result ≡ numbers_for word.now }
 {
-    if word.len() == 0 {
+    let is_empty = word.len() == 0;
+    if is_empty {
         return Parsed::NoNumber;
     }
     let mut value: usize = 0;

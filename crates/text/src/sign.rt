@@ -33,7 +33,8 @@ fn negative(size: Parsed) -> Signed
     let Parsed::Number(n) = size else {
         return Signed::NoNumber;
     };
-    if HALF < n {
+    let is_large = HALF < n;
+    if is_large {
         return Signed::NoNumber;
     }
     if n == 0 {
@@ -50,7 +51,8 @@ pub fn parse_signed(word: &[u8]) -> Signed
     if word.len() == 0 {
         return Signed::NoNumber;
     }
-    if word[0] == b'-' {
+    let has_minus = word[0] == b'-';
+    if has_minus {
         let size = parse_number(&word[1..]);
         return negative(size);
     }

@@ -18,14 +18,14 @@ use Rattle.c_numbers.proofs.hand_over.Reads as reads
 use Rattle.c_numbers.proofs.hand_over.Lts as lts
 
 abbrev invariant-loop : tie.invariant-loop-i
-invariant-loop out₀ flat i₀ out i = (i ≤ 64) × (64 ≤ length out₀) × (length flat ≡ 64) × (length out ≡ length out₀) × (out ≡ take i flat ++ drop i out₀)
+invariant-loop out₀ flat is_short i₀ out i = (i ≤ 64) × (64 ≤ length out₀) × (length flat ≡ 64) × (length out ≡ length out₀) × (out ≡ take i flat ++ drop i out₀)
 
 abbrev decreases-loop : tie.decreases-loop-i
-decreases-loop out₀ flat i₀ out i = 64 - i
+decreases-loop out₀ flat is_short i₀ out i = 64 - i
 
-returns : tie.Need-returns-then-out-lt64 invariant-loop decreases-loop
+returns : tie.Need-returns-then-is_short invariant-loop decreases-loop
 unfolding handed_over
-returns c = rw (lt-ltb _ _ c.if-out-lt64.true) refl
+returns c = rw (lt-ltb _ _ c.if-is_short.true) refl
 
 loop-holds : tie.Need-loop-i-init invariant-loop decreases-loop
 loop-holds c = (search rules, search rules, search rules, refl, refl)

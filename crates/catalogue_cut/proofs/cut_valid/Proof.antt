@@ -54,14 +54,14 @@ slice-aggregate-forward c = search rules
 forward-requires : tie.Need-forward-kept-requires
 forward-requires c κs = search rules
 
-same_length : tie.Need-shape_of-bytes-then-kept-eq0
+same_length : tie.Need-shape_of-bytes-then-is_bare
 same_length c = search rules
 
-returns : tie.Need-returns-then-kept-eq0
+returns : tie.Need-returns-then-is_bare
 returns c =
     let f = c.before.before.before in
     let x = (start f).args in
-    let e = sym (count f) ∙ c.if-kept-eq0.true in (
+    let e = sym (count f) ∙ c.if-is_bare.true in (
       sym (none_from x.bytes.now x.limit x.closeness e),
       front f ∙ moved_none x.bytes.now x.limit x.closeness e ∙ sym (none-buffer x.bytes.now x.limit x.closeness e),
     )
@@ -87,7 +87,7 @@ returns-2 c =
     let f = t.before.before.before in
     let x = (start f).args in
     let n = count f in
-    let d : length (kept_in x.bytes.now x.limit x.closeness) ≡ 0 → ⊥ = λ z. c.if-kept-eq0.false (n ∙ z) in (
+    let d : length (kept_in x.bytes.now x.limit x.closeness) ≡ 0 → ⊥ = λ z. c.if-is_bare.false (n ∙ z) in (
       ap Count n ∙ sym (some-from x.bytes.now x.limit x.closeness d),
       c.fill.ensures
           ∙ (λ j. take (record_size * n j) (front f j) ++ replicate (length c.forward-kept.new.bytes - record_size * n j) freed)

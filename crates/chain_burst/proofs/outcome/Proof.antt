@@ -29,14 +29,14 @@ returns c = c.plain.ensures ∙ sym (size-refused _ _ _ _ (sym c.size_ok.ensures
 mul-size : tie.Need-overflow_mul-size
 mul-size c = let a = c.args in omega (arith, size-most a.width a.height (size-right c))
 
-rem-if2 : tie.Need-nonzero_rem-samples
+rem-if2 : tie.Need-nonzero_rem-is_broken
 rem-if2 c = some c
 
-plain-requires-2 : tie.Need-plain-requires-then-samples-size-ne0
+plain-requires-2 : tie.Need-plain-requires-then-is_broken
 plain-requires-2 c κs = search rules
 
-returns-2 : tie.Need-returns-then-samples-size-ne0
-returns-2 c = c.plain-then-samples-size-ne0.ensures ∙ sym (part-refused _ _ _ _ (size-right c.before.before) c.if-samples-size-ne0.true)
+returns-2 : tie.Need-returns-then-is_broken
+returns-2 c = c.plain-then-is_broken.ensures ∙ sym (part-refused _ _ _ _ (size-right c.before.before) c.if-is_broken.true)
 
 mul-if3 : tie.Need-overflow_mul-size-2
 mul-if3 c = let a = c.args in omega (arith, size-most a.width a.height (size-right c.before))
@@ -47,7 +47,7 @@ plain-requires-3 c κs = search rules
 returns-3 : tie.Need-returns-then-size-samples
 returns-3 c =
     let e = c.before.before in
-    c.plain-then-size-samples.ensures ∙ sym (many-refused _ _ _ _ (size-right e.before) c.if-samples-size-ne0.false c.if-size-samples.true)
+    c.plain-then-size-samples.ensures ∙ sym (many-refused _ _ _ _ (size-right e.before) c.if-is_broken.false c.if-size-samples.true)
 
 div-if4 : tie.Need-nonzero_div-samples
 div-if4 c = some c.before.before
@@ -62,13 +62,13 @@ returns-4 : tie.Need-returns-then-records-samples
 returns-4 c =
     let t = c.before.before in
     let e = t.before in
-    c.plain-then-records-samples.ensures ∙ sym (room-refused _ _ _ _ (size-right e.before) c.if-samples-size-ne0.false c.if-size-samples.false c.if-records-samples.true)
+    c.plain-then-records-samples.ensures ∙ sym (room-refused _ _ _ _ (size-right e.before) c.if-is_broken.false c.if-size-samples.false c.if-records-samples.true)
 
 returns-5 : tie.Need-returns
 returns-5 c =
     let t = c.before in
     let e = t.before in
-    sym (none-refused _ _ _ _ (size-right e.before) c.if-samples-size-ne0.false c.if-size-samples.false c.if-records-samples.false)
+    sym (none-refused _ _ _ _ (size-right e.before) c.if-is_broken.false c.if-size-samples.false c.if-records-samples.false)
 
 pub outcome_spec : {M : Type 1} → statement M
 outcome_spec =

@@ -13,7 +13,7 @@ use Rattle.files.proofs.read_samples.Statement.{statement}
 use Rattle.files.proofs.read_samples.Tie as tie
 
 abbrev invariant-loop : tie.invariant-loop-i
-invariant-loop bytes width height room₀ count i₀ room i =
+invariant-loop bytes width height room₀ count is_short i₀ room i =
     (i ≤ count)
     × (2 * count ≤ length bytes)
     × (count ≤ 32000)
@@ -22,7 +22,7 @@ invariant-loop bytes width height room₀ count i₀ room i =
     × (room ≡ samples_of bytes i ++ drop i room₀)
 
 abbrev decreases-loop : tie.decreases-loop-i
-decreases-loop bytes width height room₀ count i₀ room i = count - i
+decreases-loop bytes width height room₀ count is_short i₀ room i = count - i
 
 -- one sample more
 stored : (bytes room room₀ : List ℕ) (i x : ℕ) → i < length room₀ → room ≡ samples_of bytes i ++ drop i room₀ → x ≡ number_at bytes (2 * i) 2
@@ -37,9 +37,9 @@ stored bytes room room₀ i x h e f =
 sample-count-requires : tie.Need-sample_count-count-requires invariant-loop decreases-loop
 sample-count-requires c κs = search rules
 
-returns : tie.Need-returns-then-room-count invariant-loop decreases-loop
+returns : tie.Need-returns-then-is_short invariant-loop decreases-loop
 unfolding samples_of
-returns c = (rw c.before.sample_count-count.ensures at (sym (taken_none _ _ c.if-room-count.true)), refl)
+returns c = (rw c.before.sample_count-count.ensures at (sym (taken_none _ _ c.if-is_short.true)), refl)
 
 loop-holds : tie.Need-loop-i-init invariant-loop decreases-loop
 unfolding samples_of
@@ -48,7 +48,7 @@ loop-holds c =
     let s = q.before.before.before in
     let f = count_fits (length s.args.bytes.now) s.args.width s.args.height in
     let e = q.sample_count-count.ensures in
-    (omega arith, omega (arith, f.0, e), omega (arith, f.1, e), refl, c.if-room-count.false, refl)
+    (omega arith, omega (arith, f.0, e), omega (arith, f.1, e), refl, c.if-is_short.false, refl)
 
 mul-u16-at : tie.Need-overflow_mul-i invariant-loop decreases-loop
 mul-u16-at c = omega arith

@@ -19,9 +19,9 @@ use Rattle.files.specs.declared.Reading.TheVariants.{Read}
 use Rattle.files.proofs.read_settings.Statement.{statement}
 use Rattle.files.proofs.read_settings.Tie as tie
 
-returns : tie.Need-returns-then-bytes-ne-SETTINGS_SIZE
+returns : tie.Need-returns-then-is_other_size
 unfolding reading_of
-returns c = (simp (ne_eqb _ _ c.if-bytes-ne-SETTINGS_SIZE.true), length-told c.before.before.args.bytes.now c.if-bytes-ne-SETTINGS_SIZE.true)
+returns c = (simp (ne_eqb _ _ c.if-is_other_size.true), length-told c.before.before.args.bytes.now c.if-is_other_size.true)
 
 u16-at-requires : tie.Need-u16_at-requires
 u16-at-requires c κs = search rules
@@ -88,7 +88,7 @@ returns-2 c =
     let n3 = n4.before in
     let n2 = n3.before in
     let n1 = n2.before in
-    let whole = n1.before.if-bytes-ne-SETTINGS_SIZE.false in
+    let whole = n1.before.if-is_other_size.false in
     let focal : number_at n1.before.before.before.args.bytes.now 16 4 < 2 ^ 53 = omega (arith, n7.u32_at-3.type_inv, n7.u32_at-3.ensures) in
     let read : _ ≡ Read (settings_of n1.before.before.before.args.bytes.now) =
     (λ i.

@@ -21,11 +21,11 @@ above n h = nan_is (of_bits binary64 n) (sym (nan_bits_is binary64 n) ∙ nan_bi
 at_most : (n : ℕ) → n % 0x8000_0000_0000_0000 ≤ 0x7ff0_0000_0000_0000 → nan_bits binary64 n ≡ false
 at_most n h = nan_bits_above binary64 n ∙ le-ltb 0x7ff0_0000_0000_0000 (n % 0x8000_0000_0000_0000) h
 
-returns : tie.Need-returns-then-bits-gt9218868437227405312
-returns c = made ∙ sym (above c.before.args.bits c.if-bits-gt9218868437227405312.true)
+returns : tie.Need-returns-then-is_none
+returns c = made ∙ sym (above c.before.args.bits c.if-is_none.true)
 
 float-from-bits-result : tie.Need-float_from_bits-result
-float-from-bits-result c = subst (λ (b : Bool). T (not b)) (sym (at_most c.before.args.bits c.if-bits-gt9218868437227405312.false)) tt
+float-from-bits-result c = subst (λ (b : Bool). T (not b)) (sym (at_most c.before.args.bits c.if-is_none.false)) tt
 
 returns-2 : tie.Need-returns
 returns-2 c = search rules

@@ -32,12 +32,12 @@ module _ (asked : Asked) (settings frame catalogue : List ℕ) where
   unfolding asked_text
   read-text s e = sym (ap (λ (x : Reading). read_text asked frame catalogue x) e)
 
-abbrev start : tie.Else-room-lt-ROOM → tie.Start
+abbrev start : tie.Else-is_short → tie.Start
 start c = c.before.before.before.before.before
 
-returns : tie.Need-returns-then-room-lt-ROOM
+returns : tie.Need-returns-then-is_short
 returns c =
-    let s = room-short 2048 _ _ c.if-room-lt-ROOM.true in
+    let s = room-short 2048 _ _ c.if-is_short.true in
     (s.0, (s.1, omega arith))
 
 read-settings-requires : tie.Need-read_settings-requires
@@ -66,7 +66,7 @@ returns-2 c =
     let a = (start e).args in
     let t = refused-text a.asked a.settings.now a.frame.now a.catalogue.now k.in-Refused.r
     (sym k.read_settings.ensures.0 ∙ k.in-Refused.is) in
-    room-told 2048 _ _ _ _ _ _ e.if-room-lt-ROOM.false (omega (arith, w.refused.ensures.1, (most a.asked).0)) (most a.asked).1 t w.refused.ensures.0
+    room-told 2048 _ _ _ _ _ _ e.if-is_short.false (omega (arith, w.refused.ensures.1, (most a.asked).0)) (most a.asked).1 t w.refused.ensures.0
 
 same-length-2 : tie.Need-shape_of-room-in-Read
 same-length-2 c = search rules
@@ -79,7 +79,7 @@ returns-3 c =
     let a = (start e).args in
     let t = read-text a.asked a.settings.now a.frame.now a.catalogue.now k.in-Read.s (sym k.read_settings.ensures.0
     ∙ k.in-Read.is) in
-    room-told 2048 _ _ _ _ _ _ e.if-room-lt-ROOM.false w.listed.ensures.1 (most a.asked).1 t w.listed.ensures.0
+    room-told 2048 _ _ _ _ _ _ e.if-is_short.false w.listed.ensures.1 (most a.asked).1 t w.listed.ensures.0
 
 pub write_asked_spec : {M : Type 1} → statement M
 write_asked_spec =

@@ -81,7 +81,8 @@ fn vote(
     }
     let product = key::raise(products[j]);
     let lower = product - tolerance;
-    if floor <= lower {
+    let is_indexed = floor <= lower;
+    if is_indexed {
         return;
     }
     vote_all(stars, lower, product + tolerance, votes);

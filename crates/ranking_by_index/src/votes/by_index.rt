@@ -68,12 +68,14 @@ fn vote(
     requires by_index { (c : ℕ) → get_or votes.old c 0 ≤ 1000000000 }
     ensures { AddedByIndex index.now (get_or products.now j (pos 0)) tolerance floor i j votes.old votes.new }
 {
-    if j == i {
+    let is_same = j == i;
+    if is_same {
         return;
     }
     let product = key::raise(products[j]);
     let lower = product - tolerance;
-    if lower < floor {
+    let is_below = lower < floor;
+    if is_below {
         return;
     }
     walk(index, lower, product + tolerance, votes);

@@ -16,15 +16,15 @@ use Rattle.ranking_votes.proofs.agreeing_near.Tie as tie
 abbrev pair : tie.Start → Num w64
 pair s = arg s.requires.1.1.0 tt
 
-mark-at-requires : tie.Need-mark_at-requires
+mark-at-requires : tie.Need-mark_at-is_far-requires
 mark-at-requires c κs = (c.before.requires.1.1.1.0, near (pair c.before) tt)
 
-returns : tie.Need-returns-then-mark_at-eq0
+returns : tie.Need-returns-then-is_far
 returns c =
     let s = c.before.before.before in
     let x = s.args in
     sym (none-near x.near.now x.products.now x.count x.i x.p x.tolerance s.requires.1.1.1.1 s.requires.0.1 s.requires.1.1.0
-    (ap (λ (q : ℤ). get_or x.near.now (place_of q) 0) (sym (back (pair s))) ∙ sym c.before.mark_at.ensures ∙ c.if-mark_at-eq0.true))
+    (ap (λ (q : ℤ). get_or x.near.now (place_of q) 0) (sym (back (pair s))) ∙ sym c.before.mark_at-is_far.ensures ∙ c.if-is_far.true))
 
 agreeing-with-requires : tie.Need-agreeing_with-requires
 agreeing-with-requires c κs = search rules

@@ -9,8 +9,8 @@ use Rattle.search_fit.proofs.Beside.{itself, disagrees, goes_on}
 use Rattle.search_fit.proofs.passes.Statement.{statement}
 use Rattle.search_fit.proofs.passes.Tie as tie
 
-returns : tie.Need-returns-then-newest-star
-returns c = itself _ _ _ _ _ _ _ c.if-newest-star.true
+returns : tie.Need-returns-then-is_taken
+returns c = itself _ _ _ _ _ _ _ c.if-is_taken.true
 
 agrees-with-requires : tie.Need-agrees_with-requires
 agrees-with-requires c κs =
@@ -36,7 +36,7 @@ stands-beside-requires c κs = search rules
 returns-3 : tie.Need-returns
 returns-3 c =
     let g = c.before.before in
-    c.stands_beside.ensures ∙ goes_on _ _ _ _ _ _ _ g.before.if-newest-star.false (said g _ c.before.if-not-agrees_with.false)
+    c.stands_beside.ensures ∙ goes_on _ _ _ _ _ _ _ g.before.if-is_taken.false (said g _ c.before.if-not-agrees_with.false)
 
 pub passes_spec : {M : Type 1} → statement M
 passes_spec =

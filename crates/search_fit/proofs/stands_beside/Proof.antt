@@ -47,7 +47,7 @@ shared-slice-read-index c = omega arith
 index-requires : tie.Need-index-other-requires invariant-loop decreases-loop
 index-requires c κs = search rules
 
-returns : tie.Need-returns-then-other-star invariant-loop decreases-loop
+returns : tie.Need-returns-then-is_taken invariant-loop decreases-loop
 unfolding besides
 returns c = sym (pairs-false _ _ _ _ _ (c.before.before.before.before.before.loop-j.j - 1) (omega arith) (omega arith) (inl (omega arith)))
 
@@ -87,7 +87,7 @@ loop-again c =
     let a = l.before.before.args in (
       omega arith,
       more (Beside a.stars.now a.count a.tolerance a.chosen.now a.dots.now a.star) a.i l.loop-j.j l.loop-j.invariant.1
-          (λ _. (λ e. c.before.before.before.if-other-star.false (omega arith), said c.before _ c.if-not-agrees.false)),
+          (λ _. (λ e. c.before.before.before.if-is_taken.false (omega arith), said c.before _ c.if-not-agrees.false)),
     )
 
 loop-less-2 : tie.Need-loop-j-smaller invariant-loop decreases-loop

@@ -45,15 +45,15 @@ byte-requires c κs = search rules
 number-requires : tie.Need-number-requires
 number-requires c κs = search rules
 
-same_length : tie.Need-shape_of-room-then-z-lt0
+same_length : tie.Need-shape_of-room-then-is_negative
 same_length c = search rules
 
-returns : tie.Need-returns-then-z-lt0
+returns : tie.Need-returns-then-is_negative
 returns c =
     let o = c.before.before in
     let b = o.before.before.before.before in
     let t = b.before.before in (
-      below (start t.before).args.z (tested-lt (z t.before) zero t.if-z-lt0.true) (size t.before) b.byte-next.ensures o.number.ensures.0,
+      below (start t.before).args.z (tested-lt (z t.before) zero t.if-is_negative.true) (size t.before) b.byte-next.ensures o.number.ensures.0,
       omega (arith, o.number.ensures.1, b.byte-next.ensures.place),
     )
 
@@ -67,7 +67,7 @@ returns-2 : tie.Need-returns
 returns-2 c =
     let o = c.before.before in
     let t = o.before.before in (
-      above (start t.before).args.z (tested-lt (z t.before) zero t.if-z-lt0.false) (size t.before) o.number-2.ensures.0,
+      above (start t.before).args.z (tested-lt (z t.before) zero t.if-is_negative.false) (size t.before) o.number-2.ensures.0,
       omega (arith, o.number-2.ensures.1),
     )
 

@@ -35,16 +35,16 @@ module _ (xs : List ℤ) (rows : List Float) where
   unfolding cosines_room
   room-is e f = f ∙ ap (λ (g : Gimbal). written (floats_of g) rows) e
 
-returns : tie.Need-returns-then-rows-lt9
+returns : tie.Need-returns-then-is_short
 returns c =
     let a = c.before.before.args in
-    let e = short a.matrix.now a.rows.now (lt-ltb _ _ c.if-rows-lt9.true) in
+    let e = short a.matrix.now a.rows.now (lt-ltb _ _ c.if-is_short.true) in
     (room-is a.matrix.now a.rows.now e refl, e)
 
-returns-2 : tie.Need-returns-then-matrix-ne9
+returns-2 : tie.Need-returns-then-is_no_matrix
 returns-2 c =
     let a = c.before.before.before.args in
-    let e = wrong a.matrix.now a.rows.now (le-ltb _ _ c.before.if-rows-lt9.false) (ne_eqb _ _ c.if-matrix-ne9.true) in
+    let e = wrong a.matrix.now a.rows.now (le-ltb _ _ c.before.if-is_short.false) (ne_eqb _ _ c.if-is_no_matrix.true) in
     (room-is a.matrix.now a.rows.now e refl, e)
 
 matrix-in-requires : tie.Need-matrix_in-requires
@@ -66,7 +66,7 @@ returns-3 c =
     let matrix = answer.before in
     let left = matrix.before in
     let a = left.before.before.before.args in
-    let e = right a.matrix.now a.rows.now (le-ltb _ _ left.before.if-rows-lt9.false) (eq-eqb _ _ left.if-matrix-ne9.false) (answer.cosines_of-answer.ensures.0
+    let e = right a.matrix.now a.rows.now (le-ltb _ _ left.before.if-is_short.false) (eq-eqb _ _ left.if-is_no_matrix.false) (answer.cosines_of-answer.ensures.0
     ∙ ap gimbal_of matrix.matrix_in.ensures) in
     (room-is a.matrix.now a.rows.now e put.put_rows.ensures, e)
 

@@ -54,10 +54,10 @@ module _ (rows target room : List Float) where
 plain-requires : tie.Need-plain-requires
 plain-requires c κs = search rules
 
-returns : tie.Need-returns-then-target-ne3
+returns : tie.Need-returns-then-is_no_target
 returns c =
     let a = c.before.before.before.before.before.args in
-    let e = no_target (length a.rows.now) (length a.target.now) (length a.turned.now) (ne_eqb _ _ c.before.if-target-ne3.true) in
+    let e = no_target (length a.rows.now) (length a.target.now) (length a.turned.now) (ne_eqb _ _ c.before.if-is_no_target.true) in
     (refused a.rows.now a.target.now a.turned.now e, c.plain.ensures ∙ sym e)
 
 plain-requires-2 : tie.Need-plain-requires-then-turned-lt3
@@ -66,7 +66,7 @@ plain-requires-2 c κs = search rules
 returns-2 : tie.Need-returns-then-turned-lt3
 returns-2 c =
     let a = c.before.before.before.before.before.before.args in
-    let e = no_room (length a.rows.now) (length a.target.now) (length a.turned.now) (eq-eqb _ _ c.before.before.if-target-ne3.false)
+    let e = no_room (length a.rows.now) (length a.target.now) (length a.turned.now) (eq-eqb _ _ c.before.before.if-is_no_target.false)
     (lt-ltb _ _ c.before.if-turned-lt3.true) in
     (refused a.rows.now a.target.now a.turned.now e, c.plain-then-turned-lt3.ensures ∙ sym e)
 
@@ -76,7 +76,7 @@ plain-requires-3 c κs = search rules
 returns-3 : tie.Need-returns-then-rows-ne9
 returns-3 c =
     let a = c.before.before.before.before.before.before.before.args in
-    let e = no_rows (length a.rows.now) (length a.target.now) (length a.turned.now) (eq-eqb _ _ c.before.before.before.if-target-ne3.false)
+    let e = no_rows (length a.rows.now) (length a.target.now) (length a.turned.now) (eq-eqb _ _ c.before.before.before.if-is_no_target.false)
     (le-ltb _ _ c.before.before.if-turned-lt3.false) (ne_eqb _ _ c.before.if-rows-ne9.true) in
     (refused a.rows.now a.target.now a.turned.now e, c.plain-then-rows-ne9.ensures ∙ sym e)
 
@@ -103,7 +103,7 @@ returns-4 c =
     let rows = target.before in
     let left = rows.before in
     let a = left.before.before.before.before.before.before.args in
-    let e = taken (length a.rows.now) (length a.target.now) (length a.turned.now) (eq-eqb _ _ left.before.before.if-target-ne3.false)
+    let e = taken (length a.rows.now) (length a.target.now) (length a.turned.now) (eq-eqb _ _ left.before.before.if-is_no_target.false)
     (le-ltb _ _ left.before.if-turned-lt3.false) (eq-eqb _ _ left.if-rows-ne9.false) in (
       accepted a.rows.now a.target.now a.turned.now e (answer.turned-answer.ensures.0
           ∙ (λ i. turned_of (rows.cosines_in.ensures i) (target.triple_at.ensures i))) put.put_triple.ensures,

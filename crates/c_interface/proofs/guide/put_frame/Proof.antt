@@ -40,14 +40,14 @@ returns c =
     let u = untaken a.guider.now a.list.now (rw (ne_eqb _ _ c.before.if-guider-ne-NUMBERS.true)) in
     (u.0, c.plain.ensures ∙ u.1)
 
-plain-requires-2 : tie.Need-plain-requires-then-list-ne64
+plain-requires-2 : tie.Need-plain-requires-then-is_no_list
 plain-requires-2 c κs = search rules
 
-returns-2 : tie.Need-returns-then-list-ne64
+returns-2 : tie.Need-returns-then-is_no_list
 returns-2 c =
     let a = c.before.before.before.args in
-    let u = untaken a.guider.now a.list.now (rw (eq-eqb _ _ c.before.before.if-guider-ne-NUMBERS.false, ne_eqb _ _ c.before.if-list-ne64.true)) in
-    (u.0, c.plain-then-list-ne64.ensures ∙ u.1)
+    let u = untaken a.guider.now a.list.now (rw (eq-eqb _ _ c.before.before.if-guider-ne-NUMBERS.false, ne_eqb _ _ c.before.if-is_no_list.true)) in
+    (u.0, c.plain-then-is_no_list.ensures ∙ u.1)
 
 sub-frame-in : tie.Need-slice_bounds-frame_in-count
 sub-frame-in c = search rules
@@ -80,7 +80,7 @@ returns-3 : tie.Need-returns
 returns-3 c =
     let put = c.before in
     let a = c.args in
-    is-taken a.guider.now a.list.now (rw (eq-eqb _ _ c.if-guider-ne-NUMBERS.false, eq-eqb _ _ c.if-list-ne64.false)) (framed put.before.before) put.put_framed.ensures
+    is-taken a.guider.now a.list.now (rw (eq-eqb _ _ c.if-guider-ne-NUMBERS.false, eq-eqb _ _ c.if-is_no_list.false)) (framed put.before.before) put.put_framed.ensures
 
 pub put_frame_spec : {M : Type 1} → statement M
 put_frame_spec =

@@ -57,7 +57,7 @@ mul-root-2 c = omega (arith, squares c)
 add-root : tie.Need-overflow_add-a
 add-root c = omega (arith, squares c)
 
-mul-root-3 : tie.Need-overflow_mul-c
+mul-root-3 : tie.Need-overflow_mul-cc
 mul-root-3 c = omega (arith, squares c)
 
 add-root-2 : tie.Need-overflow_add-a-2
@@ -85,10 +85,10 @@ norm_spec =
     abs-requires
     abs-requires-2
     abs-requires-3
+    mul-root-3
     mul-root
     mul-root-2
     add-root
-    mul-root-3
     add-root-2
     mul-root-4
     root-requires

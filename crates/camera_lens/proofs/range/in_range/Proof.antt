@@ -11,11 +11,11 @@ module _ (q : Float) {t : Bool} where
   unfolding of_bits
   by_first h = sym (ap (λ (s : Bool). s && lt q limit) h) ∙ tests q
 
-returns : tie.Need-returns-then-q
-returns c = by_first c.before.args.q c.if-q.true
+returns : tie.Need-returns-then-is_above
+returns c = by_first c.before.args.q c.if-is_above.true
 
 returns-2 : tie.Need-returns
-returns-2 c = by_first c.before.args.q c.if-q.false
+returns-2 c = by_first c.before.args.q c.if-is_above.false
 
 pub in_range_spec : {M : Type 1} → statement M
 in_range_spec = tie.close (tie.spec returns returns-2)

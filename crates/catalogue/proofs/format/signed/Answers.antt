@@ -21,10 +21,10 @@ below w k = sub (num refl (word-within w k) tt) (lit (pos 4294967296) tt) tt
 below-fits : (w : ℕ) (k : w < 4294967296) → 2147483648 ≤ w → SFits w32 (to_z w64 (of_z w64 (below w k).u))
 below-fits w k h = subst (SFits w32) (sym (back (below w k))) (high_fits w h k)
 
-pub returns-then-w-lt2147483648 : goal.returns-then-w-lt2147483648
-returns-then-w-lt2147483648 c = to_z_pos w32 _ c.if-w-lt2147483648.true ∙ sym (signed_low c.args.w c.if-w-lt2147483648.true)
+pub returns-then-is_lower : goal.returns-then-is_lower
+returns-then-is_lower c = to_z_pos w32 _ c.if-is_lower.true ∙ sym (signed_low c.args.w c.if-is_lower.true)
 
 pub returns : goal.returns
 returns c =
     let k : c.args.w < 4294967296 = omega (arith, c.ranges.w) in
-    to_z-of_z w32 _ (below-fits c.args.w k c.if-w-lt2147483648.false) ∙ back (below c.args.w k) ∙ sym (signed_high c.args.w c.if-w-lt2147483648.false)
+    to_z-of_z w32 _ (below-fits c.args.w k c.if-is_lower.false) ∙ back (below c.args.w k) ∙ sym (signed_high c.args.w c.if-is_lower.false)

@@ -86,7 +86,7 @@ mul-within-2 c = fits (yy c)
 add-within : tie.Need-overflow_add-x
 add-within c = fits (two c)
 
-mul-within-3 : tie.Need-overflow_mul-z
+mul-within-3 : tie.Need-overflow_mul-zz
 mul-within-3 c = fits (zz c)
 
 add-within-2 : tie.Need-overflow_add-x-2
@@ -115,10 +115,10 @@ direction_ok_spec =
     returns-2
     within-requires-3
     returns-3
+    mul-within-3
     mul-within
     mul-within-2
     add-within
-    mul-within-3
     add-within-2
     sub_within
     within-requires-4

@@ -63,17 +63,17 @@ advance-requires c κs = more c
 add-found : tie.Need-overflow_add-found invariant-loop decreases-loop
 add-found c = let a = c.before.before.before.before in omega (arith, a.loop-i.invariant.few, short a)
 
-loop-less : tie.Need-loop-i-smaller-then-s-ne0 invariant-loop decreases-loop
+loop-less : tie.Need-loop-i-smaller-then-is_change invariant-loop decreases-loop
 loop-less c = omega (arith, further c.before.before, c.before.before.before.loop-i-test)
 
-loop-again : tie.Need-loop-i-preserved-then-s-ne0 invariant-loop decreases-loop
-loop-again c = turned c.before.before (omega (arith, ap length (told-one c.before.before.advance-s.result c.if-s-ne0.true)))
+loop-again : tie.Need-loop-i-preserved-then-is_change invariant-loop decreases-loop
+loop-again c = turned c.before.before (omega (arith, ap length (told-one c.before.before.advance-s.result c.if-is_change.true)))
 
 loop-less-2 : tie.Need-loop-i-smaller invariant-loop decreases-loop
 loop-less-2 c = omega (arith, further c.before.before, c.before.before.before.loop-i-test)
 
 loop-again-2 : tie.Need-loop-i-preserved invariant-loop decreases-loop
-loop-again-2 c = turned c.before.before (omega (arith, ap length (told_none c.before.before.advance-s.result c.if-s-ne0.false)))
+loop-again-2 c = turned c.before.before (omega (arith, ap length (told_none c.before.before.advance-s.result c.if-is_change.false)))
 
 returns : tie.Need-returns invariant-loop decreases-loop
 returns c =

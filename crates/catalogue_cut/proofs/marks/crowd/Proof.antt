@@ -22,13 +22,13 @@ use Rattle.catalogue_cut.proofs.marks.crowd.Lts as lts
 use Rattle.catalogue_cut.proofs.marks.meets.Reads as meets-reads
 
 abbrev invariant-loop : tie.invariant-loop-b
-invariant-loop stars closeness a marks₀ star own₀ b₀ marks own b =
+invariant-loop stars closeness a marks₀ is_faint star own₀ b₀ marks own b =
     (b ≤ a)
     × (length marks ≡ length marks₀)
     × ((bright : ℕ → Bool) → Judged bright stars (to_z w64 closeness) a marks₀ → Row bright stars (to_z w64 closeness) a b own marks)
 
 abbrev decreases-loop : tie.decreases-loop-b
-decreases-loop stars closeness a marks₀ star own₀ b₀ marks own b = a - b
+decreases-loop stars closeness a marks₀ is_faint star own₀ b₀ marks own b = a - b
 
 -- src/judge.rt:63:8
 -- the entry, from the place at which star a is read
@@ -51,9 +51,9 @@ slice-read-if1 : tie.Need-bounds-marks-a invariant-loop decreases-loop
 slice-read-if1 c = search rules
 
 -- src/judge.rt:64:9
-returns : tie.Need-returns-then-marks-a-eq-FAINT invariant-loop decreases-loop
+returns : tie.Need-returns-then-is_faint invariant-loop decreases-loop
 returns c =
-    λ bright J. judged-faint c.requires.1.0 J c.if-marks-a-eq-FAINT.true
+    λ bright J. judged-faint c.requires.1.0 J c.if-is_faint.true
 
 -- src/judge.rt:68:5
 triple-at-requires : tie.Need-triple_at-star-requires invariant-loop decreases-loop
@@ -62,7 +62,7 @@ triple-at-requires c κs = search rules
 loop-holds : tie.Need-loop-b-init invariant-loop decreases-loop
 loop-holds c =
     let s = start c in
-    (search rules, refl, (λ bright J. row-start s.requires.1.0 J c.if-marks-a-eq-FAINT.false))
+    (search rules, refl, (λ bright J. row-start s.requires.1.0 J c.if-is_faint.false))
 
 -- src/judge.rt:69:42
 slice-read-meets : tie.Need-bounds-marks-b invariant-loop decreases-loop

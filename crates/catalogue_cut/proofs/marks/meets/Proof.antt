@@ -23,8 +23,8 @@ meets-bright : (closeness product : ℤ) (mark : ℕ) → (mark ≡ 2 → ⊥) �
 unfolding meets_by
 meets-bright closeness product mark d = rw (ne_eqb mark 2 d)
 
-returns : tie.Need-returns-then-mark-eq-FAINT
-returns c = let x = c.args in sym (meets-faint x.closeness _ x.mark c.if-mark-eq-FAINT.true)
+returns : tie.Need-returns-then-is_faint
+returns c = let x = c.args in sym (meets-faint x.closeness _ x.mark c.if-is_faint.true)
 
 triple-at-requires : tie.Need-triple_at-requires
 triple-at-requires c κs = search rules
@@ -39,7 +39,7 @@ returns-2 c =
     let x = c.args in
     let p = back (param {w = w64} c.ranges.closeness) in
     let q = back (arg {w = w64} c.dot.ensures.1 tt) ∙ c.dot.ensures.0 ∙ ap (dot_of x.star) c.triple_at.ensures in
-    (λ i. le_z (p i) (q i)) ∙ sym (meets-bright x.closeness _ x.mark c.if-mark-eq-FAINT.false)
+    (λ i. le_z (p i) (q i)) ∙ sym (meets-bright x.closeness _ x.mark c.if-is_faint.false)
 
 pub meets_spec : {M : Type 1} → statement M
 meets_spec = tie.close (tie.spec returns triple-at-requires dot-requires returns-2)

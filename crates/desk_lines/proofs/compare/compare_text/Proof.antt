@@ -53,9 +53,9 @@ module _ (c : tie.In-Count) where
   within : 8 * records ≤ length called.compare-compared.new.room
   within = omega (arith, length-take (8 * records) called.compare-compared.new.room, ap length front, long)
 
-returns : tie.Need-returns-then-room-lt-ROOM
+returns : tie.Need-returns-then-is_short
 returns c =
-    let s = room-short 32768 _ _ c.if-room-lt-ROOM.true in
+    let s = room-short 32768 _ _ c.if-is_short.true in
     (s.0, (s.1, omega arith))
 
 slice-aggregate-compare : tie.Need-slice_bounds-compare-end
@@ -92,7 +92,7 @@ returns-2 : tie.Need-returns-in-Refused
 returns-2 c =
     let k : tie.After-compare-compared = search rules in
     let t = text-refused (start k).args.first.now (start k).args.second.now _ (sym (compared_is k) ∙ c.in-Refused.is) in
-    room-told 32768 _ _ _ _ _ 29696 c.if-room-lt-ROOM.false (omega (arith, c.refused.ensures.1)) (omega arith) t c.refused.ensures.0
+    room-told 32768 _ _ _ _ _ 29696 c.if-is_short.false (omega (arith, c.refused.ensures.1)) (omega arith) t c.refused.ensures.0
 
 same-length-2 : tie.Need-shape_of-room-in-Count
 same-length-2 c = search rules
@@ -101,7 +101,7 @@ returns-3 : tie.Need-returns-in-Count
 returns-3 c =
     let m : tie.In-Count = search rules in
     let t = ap (λ (l : List ℕ). lines_of l) (front m) ∙ text-listed (first m) (second m) (records m) (listed-is m) in
-    room-told 32768 _ _ _ _ _ 29696 c.if-room-lt-ROOM.false (omega (arith, c.lines.ensures.1, ap length (front m), long m, fits m)) (omega arith) t
+    room-told 32768 _ _ _ _ _ 29696 c.if-is_short.false (omega (arith, c.lines.ensures.1, ap length (front m), long m, fits m)) (omega arith) t
     c.lines.ensures.0
 
 pub compare_text_spec : {M : Type 1} → statement M

@@ -28,9 +28,9 @@ module _ (settings frame : List ℕ) (row column : ℕ) where
       → explanation_line x ≡ why_text settings frame row column
   read-line s x e f = ap explanation_line f ∙ line_of e
 
-returns : tie.Need-returns-then-room-lt-LINE
+returns : tie.Need-returns-then-is_short
 returns c =
-    let s = room-short 128 _ _ c.if-room-lt-LINE.true in
+    let s = room-short 128 _ _ c.if-is_short.true in
     (s.0, (s.1, omega arith))
 
 read-settings-requires : tie.Need-read_settings-reading-requires
@@ -58,7 +58,7 @@ returns-2 : tie.Need-returns-in-Refused
 returns-2 c =
     let t = refused-line c.args.settings.now c.args.frame.now c.args.row c.args.column _ (sym c.read_settings-reading.ensures.0
     ∙ c.in-Refused.is) in
-    room-told 128 _ _ _ _ _ 72 c.if-room-lt-LINE.false (omega (arith, c.refused.ensures.1)) (omega arith) t c.refused.ensures.0
+    room-told 128 _ _ _ _ _ 72 c.if-is_short.false (omega (arith, c.refused.ensures.1)) (omega arith) t c.refused.ensures.0
 
 same-length-2 : tie.Need-shape_of-room-in-Read
 same-length-2 c = search rules
@@ -67,7 +67,7 @@ returns-3 : tie.Need-returns-in-Read
 returns-3 c =
     let t = read-line c.args.settings.now c.args.frame.now c.args.row c.args.column _ _ (sym c.read_settings-reading.ensures.0
     ∙ c.in-Read.is) c.explain-explanation.ensures in
-    room-told 128 _ _ _ _ _ 72 c.if-room-lt-LINE.false c.line.ensures.1 (omega arith) t c.line.ensures.0
+    room-told 128 _ _ _ _ _ 72 c.if-is_short.false c.line.ensures.1 (omega arith) t c.line.ensures.0
 
 pub why_spec : {M : Type 1} → statement M
 why_spec =

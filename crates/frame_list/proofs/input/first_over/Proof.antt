@@ -5,13 +5,13 @@ use Rattle.frame_list.specs.input.InputLaws.{over-end}
 use Rattle.frame_list.proofs.input.first_over.Statement.{statement}
 use Rattle.frame_list.proofs.input.first_over.Tie as tie
 
-largest-requires : tie.Need-largest-requires
+largest-requires : tie.Need-largest-is_whole-requires
 largest-requires c κs = search rules
 
-returns : tie.Need-returns-then-largest-le-LARGEST
+returns : tie.Need-returns-then-is_whole
 returns c =
     let g = c.before in
-    over-end g.before.before.args.samples.now (λ k h. omega (arith, g.largest.ensures k h))
+    over-end g.before.before.args.samples.now (λ k h. omega (arith, g.largest-is_whole.ensures k h))
 
 look-for-over-requires : tie.Need-look_for_over-requires
 look-for-over-requires c κs = search rules

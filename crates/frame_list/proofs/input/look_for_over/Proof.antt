@@ -23,10 +23,10 @@ mul-if1 c = search rules
 shared-slice-read-if1 : tie.Need-bounds-samples-i invariant-loop decreases-loop
 shared-slice-read-if1 c = search rules
 
-returns : tie.Need-returns-then-samples-i-gt-LARGEST invariant-loop decreases-loop
+returns : tie.Need-returns-then-is_over invariant-loop decreases-loop
 returns c =
     let p = c.before.before.before in
-    over-here p.before.args.samples.now p.loop-i.i (omega arith) p.loop-i.invariant.1 c.if-samples-i-gt-LARGEST.true
+    over-here p.before.args.samples.now p.loop-i.i (omega arith) p.loop-i.invariant.1 c.if-is_over.true
 
 add-i : tie.Need-overflow_add-i invariant-loop decreases-loop
 add-i c = search rules
@@ -37,7 +37,7 @@ loop-less c = search rules
 loop-again : tie.Need-loop-i-preserved invariant-loop decreases-loop
 loop-again c =
     let p = c.before.before.before in
-    (omega arith, below_more _ _ p.loop-i.invariant.1 c.if-samples-i-gt-LARGEST.false)
+    (omega arith, below_more _ _ p.loop-i.invariant.1 c.if-is_over.false)
 
 returns-2 : tie.Need-returns invariant-loop decreases-loop
 returns-2 c = omega (arith, over-end c.before.before.args.samples.now (λ k h. c.before.loop-i.invariant.1 k (omega arith)))

@@ -48,11 +48,11 @@ module _ (g : Guider) (r : Report) (i : ℕ) (guide : Guide) (e : guide ≡ guid
       unfolding guide_after follows
       alone t = ap (λ (x : Guide). moved x sight.star) e ∙ rw (lt-ltb _ 5 alive, eq-eqb _ _ one, said t) (ap (moved (guide_at g i)) (told.single o))
 
-returns : tie.Need-returns-then-guide-ge-DROPPED
+returns : tie.Need-returns-then-is_dropped
 returns c =
     let s = c.before.before in
     let a = s.args in
-    stays a.guider a.report a.i a.guide s.requires.2 c.if-guide-ge-DROPPED.true
+    stays a.guider a.report a.i a.guide s.requires.2 c.if-is_dropped.true
 
 look-requires : tie.Need-look-sight-requires
 look-requires c κs = search rules
@@ -60,12 +60,12 @@ look-requires c κs = search rules
 missed-requires : tie.Need-missed-requires
 missed-requires c κs = search rules
 
-returns-2 : tie.Need-returns-then-sight-ne1
+returns-2 : tie.Need-returns-then-is_unclear
 returns-2 c =
     let s = c.before.before.before.before.before.before in
     let a = s.args in
     let k = c.before.before.before.look-sight in
-    c.missed.ensures ∙ not-one a.guider a.report a.i a.guide s.requires.2 (omega arith) k.result k.ensures c.before.if-sight-ne1.true
+    c.missed.ensures ∙ not-one a.guider a.report a.i a.guide s.requires.2 (omega arith) k.result k.ensures c.before.if-is_unclear.true
 
 is-shared-requires : tie.Need-is_shared-requires
 is-shared-requires c κs = search rules
@@ -80,7 +80,7 @@ returns-3 c =
     let k = c.before.before.before.before.before.before.look-sight in
     let h = c.before.before.is_shared in
     c.missed-then-is_shared.ensures
-    ∙ not-alone a.guider a.report a.i a.guide s.requires.2 (omega arith) k.result k.ensures c.before.before.before.before.if-sight-ne1.false
+    ∙ not-alone a.guider a.report a.i a.guide s.requires.2 (omega arith) k.result k.ensures c.before.before.before.before.if-is_unclear.false
     (sym h.ensures ∙ c.before.if-is_shared.true)
 
 returns-4 : tie.Need-returns
@@ -89,7 +89,7 @@ returns-4 c =
     let a = s.args in
     let k = c.before.before.before.before.before.look-sight in
     let h = c.before.is_shared in
-    alone a.guider a.report a.i a.guide s.requires.2 (omega arith) k.result k.ensures c.before.before.before.if-sight-ne1.false
+    alone a.guider a.report a.i a.guide s.requires.2 (omega arith) k.result k.ensures c.before.before.before.if-is_unclear.false
     (sym h.ensures ∙ c.if-is_shared.false)
 
 pub guide_after_spec : {M : Type 1} → statement M

@@ -13,18 +13,18 @@ use Rattle.guider.proofs.check.guider_ok.Statement.{statement}
 use Rattle.guider.proofs.check.guider_ok.Tie as tie
 
 abbrev invariant-loop : tie.invariant-loop-i
-invariant-loop guider guides identities i₀ i = (i ≤ guider.count) × (all i (guide_ok guider) ≡ true)
+invariant-loop guider is_crowded guides identities i₀ i = (i ≤ guider.count) × (all i (guide_ok guider) ≡ true)
 
 abbrev decreases-loop : tie.decreases-loop-i
-decreases-loop guider guides identities i₀ i = guider.count - i
+decreases-loop guider is_crowded guides identities i₀ i = guider.count - i
 
 returns : tie.Need-returns-then-guider-gt-WIDEST invariant-loop decreases-loop
 unfolding guider_ok
 returns c = simp (lt-leb _ _ c.if-guider-gt-WIDEST.true)
 
-returns-2 : tie.Need-returns-then-guider-gt4 invariant-loop decreases-loop
+returns-2 : tie.Need-returns-then-is_crowded invariant-loop decreases-loop
 unfolding guider_ok
-returns-2 c = simp (le-leb _ _ c.before.before.if-guider-gt-WIDEST.false, lt-leb _ _ c.if-guider-gt4.true)
+returns-2 c = simp (le-leb _ _ c.before.before.if-guider-gt-WIDEST.false, lt-leb _ _ c.if-is_crowded.true)
 
 identities-of-requires : tie.Need-identities_of-identities-requires invariant-loop decreases-loop
 identities-of-requires c κs = search rules
@@ -63,7 +63,7 @@ returns-3 c =
     ∙ c.if-not-guide_ok.true) in
     simp (
       le-leb _ _ c.before.before.before.before.before.before.before.before.before.before.before.if-guider-gt-WIDEST.false,
-      le-leb _ _ c.before.before.before.before.before.before.before.before.before.if-guider-gt4.false,
+      le-leb _ _ c.before.before.before.before.before.before.before.before.before.if-is_crowded.false,
       t,
     )
 
@@ -83,7 +83,7 @@ loop-again c = (
 returns-4 : tie.Need-returns invariant-loop decreases-loop
 unfolding guider_ok
 returns-4 c =
-    simp (le-leb _ _ c.before.before.before.before.before.before.before.if-guider-gt-WIDEST.false, le-leb _ _ c.before.before.before.before.before.if-guider-gt4.false)
+    simp (le-leb _ _ c.before.before.before.before.before.before.before.if-guider-gt-WIDEST.false, le-leb _ _ c.before.before.before.before.before.if-is_crowded.false)
     (sym (tests.all_of _ _ (λ m h. tests.all_true _ _ c.before.before.loop-i.invariant.1 m (omega arith))))
 
 pub guider_ok_spec : {M : Type 1} → statement M

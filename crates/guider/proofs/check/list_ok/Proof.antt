@@ -13,14 +13,14 @@ use Rattle.guider.proofs.check.list_ok.Statement.{statement}
 use Rattle.guider.proofs.check.list_ok.Tie as tie
 
 abbrev invariant-loop : tie.invariant-loop-k
-invariant-loop report stars k₀ k = (k ≤ report.count) × (all k (λ m. on_frame (star_at report m).x (star_at report m).y) ≡ true)
+invariant-loop report is_crowded stars k₀ k = (k ≤ report.count) × (all k (λ m. on_frame (star_at report m).x (star_at report m).y) ≡ true)
 
 abbrev decreases-loop : tie.decreases-loop-k
-decreases-loop report stars k₀ k = report.count - k
+decreases-loop report is_crowded stars k₀ k = report.count - k
 
-returns : tie.Need-returns-then-report-gt8 invariant-loop decreases-loop
+returns : tie.Need-returns-then-is_crowded invariant-loop decreases-loop
 unfolding list_ok
-returns c = simp (lt-leb _ _ c.if-report-gt8.true)
+returns c = simp (lt-leb _ _ c.if-is_crowded.true)
 
 loop-holds : tie.Need-loop-k-init invariant-loop decreases-loop
 unfolding all
@@ -42,7 +42,7 @@ returns-2 c =
     let r = c.before.before.before.before.before.before.before.before.before.args.report in
     let t : all r.count (λ m. on_frame (star_at r m).x (star_at r m).y) ≡ false =
     tests.all-false _ _ c.before.before.before.before.before.loop-k.k (omega arith) (sym f.ensures ∙ c.if-not-on_frame.true) in
-    simp (le-leb _ _ c.before.before.before.before.before.before.before.if-report-gt8.false, t)
+    simp (le-leb _ _ c.before.before.before.before.before.before.before.if-is_crowded.false, t)
 
 add-k : tie.Need-overflow_add-k invariant-loop decreases-loop
 add-k c = search rules
@@ -58,7 +58,7 @@ loop-again c =
 returns-3 : tie.Need-returns invariant-loop decreases-loop
 unfolding list_ok
 returns-3 c =
-    simp (le-leb _ _ c.before.before.before.before.if-report-gt8.false) (sym
+    simp (le-leb _ _ c.before.before.before.before.if-is_crowded.false) (sym
     (tests.all_of _ _ (λ m h. tests.all_true _ _ c.before.before.loop-k.invariant.1 m (omega arith))))
 
 pub list_ok_spec : {M : Type 1} → statement M

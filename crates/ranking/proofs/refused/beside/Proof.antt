@@ -25,11 +25,11 @@ returns c =
     let d = c.list_ok in
     c.plain.ensures ∙ sym (list-refused _ _ _ _ (sym d.ensures ∙ c.if-not-list_ok.true))
 
-plain-requires-2 : tie.Need-plain-requires-then-tolerance-gt-LARGEST_TOLERANCE
+plain-requires-2 : tie.Need-plain-requires-then-is_wide
 plain-requires-2 c κs = search rules
 
-returns-2 : tie.Need-returns-then-tolerance-gt-LARGEST_TOLERANCE
-returns-2 c = c.plain-then-tolerance-gt-LARGEST_TOLERANCE.ensures ∙ sym (tolerance-refused _ _ _ _ (kept c.before.before) c.if-tolerance-gt-LARGEST_TOLERANCE.true)
+returns-2 : tie.Need-returns-then-is_wide
+returns-2 c = c.plain-then-is_wide.ensures ∙ sym (tolerance-refused _ _ _ _ (kept c.before.before) c.if-is_wide.true)
 
 mul-if3 : tie.Need-overflow_mul-directions
 mul-if3 c =
@@ -40,10 +40,10 @@ plain-requires-3 : tie.Need-plain-requires-then-words-directions
 plain-requires-3 c κs = search rules
 
 returns-3 : tie.Need-returns-then-words-directions
-returns-3 c = c.plain-then-words-directions.ensures ∙ sym (room-refused _ _ _ _ (kept c.before.before.before) c.if-tolerance-gt-LARGEST_TOLERANCE.false c.if-words-directions.true)
+returns-3 c = c.plain-then-words-directions.ensures ∙ sym (room-refused _ _ _ _ (kept c.before.before.before) c.if-is_wide.false c.if-words-directions.true)
 
 returns-4 : tie.Need-returns
-returns-4 c = sym (none-refused _ _ _ _ (kept c.before.before) c.if-tolerance-gt-LARGEST_TOLERANCE.false c.if-words-directions.false)
+returns-4 c = sym (none-refused _ _ _ _ (kept c.before.before) c.if-is_wide.false c.if-words-directions.false)
 
 pub beside_spec : {M : Type 1} → statement M
 beside_spec =

@@ -31,16 +31,16 @@ shared-slice-read-index c = omega arith
 index-requires : tie.Need-index-first-requires invariant-loop decreases-loop
 index-requires c κs = search rules
 
-mul-is-mirrored : tie.Need-overflow_mul-j invariant-loop decreases-loop
+mul-is-mirrored : tie.Need-overflow_mul-pair invariant-loop decreases-loop
 mul-is-mirrored c = omega arith
 
-add-is-mirrored : tie.Need-overflow_add-j invariant-loop decreases-loop
+add-is-mirrored : tie.Need-overflow_add-pair invariant-loop decreases-loop
 add-is-mirrored c = omega arith
 
-mul-is-mirrored-2 : tie.Need-offset_bounds-turns-j invariant-loop decreases-loop
+mul-is-mirrored-2 : tie.Need-offset_bounds-turns-pair invariant-loop decreases-loop
 mul-is-mirrored-2 c = omega arith
 
-shared-slice-copy-out-is-mirrored : tie.Need-bounds-turns-j invariant-loop decreases-loop
+shared-slice-copy-out-is-mirrored : tie.Need-bounds-turns-pair invariant-loop decreases-loop
 shared-slice-copy-out-is-mirrored c = omega arith
 
 is-mirrored-requires : tie.Need-is_mirrored-requires invariant-loop decreases-loop
@@ -68,7 +68,7 @@ returns c =
     tests.stop a.chosen.now a.count (ask a.stars.now a.turns.now a.k a.i a.second a.star) l.loop-j.j a.k (omega arith)
     (omega arith) _ _ (said c.before) h.index-first.ensures (tests.not_on _ c.if-is_mirrored.true)
 
-add-j : tie.Need-overflow_add-j-in-loop-j invariant-loop decreases-loop
+add-j : tie.Need-overflow_add-j invariant-loop decreases-loop
 add-j c = omega arith
 
 loop-less : tie.Need-loop-j-smaller invariant-loop decreases-loop

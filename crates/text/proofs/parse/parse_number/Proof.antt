@@ -11,19 +11,19 @@ use Rattle.text.proofs.parse.parse_number.Statement.{statement}
 use Rattle.text.proofs.parse.parse_number.Tie as tie
 
 abbrev invariant-loop : tie.invariant-loop-i
-invariant-loop word value₀ i₀ value i =
+invariant-loop word is_empty value₀ i₀ value i =
     (i ≤ length word)
     × (value < 18446744073709551616)
     × (parsed_of word ≡ parsed_from value (drop i word))
 
 abbrev decreases-loop : tie.decreases-loop-i
-decreases-loop word value₀ i₀ value i = length word - i
+decreases-loop word is_empty value₀ i₀ value i = length word - i
 
-returns : tie.Need-returns-then-word-eq0 invariant-loop decreases-loop
-returns c = told _ (sym (parsed-empty _ c.if-word-eq0.true))
+returns : tie.Need-returns-then-is_empty invariant-loop decreases-loop
+returns c = told _ (sym (parsed-empty _ c.if-is_empty.true))
 
 loop-holds : tie.Need-loop-i-init invariant-loop decreases-loop
-loop-holds c = (omega arith, omega arith, parsed-some _ (omega (arith, c.if-word-eq0.false)))
+loop-holds c = (omega arith, omega arith, parsed-some _ (omega (arith, c.if-is_empty.false)))
 
 shared-slice-read-with-digit : tie.Need-bounds-word-i invariant-loop decreases-loop
 shared-slice-read-with-digit c = search rules

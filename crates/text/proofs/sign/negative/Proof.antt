@@ -41,8 +41,8 @@ enum_told c = search rules
 returns : tie.Need-returns-in_default
 returns c = search rules
 
-returns-2 : tie.Need-returns-then-n-gt-HALF
-returns-2 c = is c.in-Number.is (turned-far _ c.if-n-gt-HALF.true)
+returns-2 : tie.Need-returns-then-is_large
+returns-2 c = is c.in-Number.is (turned-far _ c.if-is_large.true)
 
 returns-3 : tie.Need-returns-then-n-eq0
 returns-3 c = none c.in-Number.is c.if-n-eq0.true
@@ -56,7 +56,7 @@ negative-requires c κs = search rules
 returns-4 : tie.Need-returns
 returns-4 c =
     ap (λ (z : ℤ). Number z) (kept w64 c.negative.type_inv c.negative.ensures)
-    ∙ is c.in-Number.is (turned-near c.in-Number.n (omega (arith, c.if-n-eq0.false)) c.if-n-gt-HALF.false)
+    ∙ is c.in-Number.is (turned-near c.in-Number.n (omega (arith, c.if-n-eq0.false)) c.if-is_large.false)
 
 pub negative_spec : {M : Type 1} → statement M
 negative_spec =

@@ -34,12 +34,12 @@ parse-number-requires c κs = search rules
 negative-requires : tie.Need-negative-requires
 negative-requires c κs = search rules
 
-returns-2 : tie.Need-returns-then-word-eq45
+returns-2 : tie.Need-returns-then-has_minus
 returns-2 c =
     let word = c.args.word.now in
     let rest = take_all (length word - 1) (drop 1 word) (omega (arith, length-drop 1 word)) in
     told _ (c.negative.ensures ∙ ap (λ (x : Parsed). negative_of x) (c.parse_number-size.ensures.0 ∙ ap parsed_of rest)
-    ∙ sym (minus-read word (omega (arith, c.if-word-eq0.false)) c.if-word-eq45.true))
+    ∙ sym (minus-read word (omega (arith, c.if-word-eq0.false)) c.if-has_minus.true))
 
 parse-number-requires-2 : tie.Need-parse_number-size-requires-2
 parse-number-requires-2 c κs = search rules
@@ -50,7 +50,7 @@ positive-requires c κs = search rules
 returns-3 : tie.Need-returns
 returns-3 c =
     told _ (c.positive.ensures ∙ ap (λ (x : Parsed). positive_of x) c.parse_number-size-2.ensures.0
-    ∙ sym (size-read _ (omega (arith, c.if-word-eq0.false)) c.if-word-eq45.false))
+    ∙ sym (size-read _ (omega (arith, c.if-word-eq0.false)) c.if-has_minus.false))
 
 pub parse_signed_spec : {M : Type 1} → statement M
 parse_signed_spec =

@@ -52,7 +52,7 @@ raise-requires c κs = search rules
 sub-lower : tie.Need-overflow_sub-lower
 sub-lower c = omega (arith, (around c).0, c.requires.1.1.1.0)
 
-returns-2 : tie.Need-returns-then-floor-lower
+returns-2 : tie.Need-returns-then-is_indexed
 returns-2 c =
     let r = c.before in
     let s = r.before.before.before.before in
@@ -61,7 +61,7 @@ returns-2 c =
     omega (
       arith,
       adds-failed (by_catalogue x.floor x.tolerance) (q s) x.stars.now x.tolerance x.i k x.j c.if-j-i.false
-          (ap not (le-leb x.floor (raised (q s) - x.tolerance) (omega (arith, lifted r, c.if-floor-lower.true)))),
+          (ap not (le-leb x.floor (raised (q s) - x.tolerance) (omega (arith, lifted r, c.if-is_indexed.true)))),
     )
 
 add-vote-all : tie.Need-overflow_add-product
@@ -81,7 +81,7 @@ returns-3 c =
     let r = f.before in
     let s = r.before.before.before.before in
     let x = c.args in
-    let h : raised (q s) - x.tolerance < x.floor = omega (arith, lifted r, c.if-floor-lower.false) in
+    let h : raised (q s) - x.tolerance < x.floor = omega (arith, lifted r, c.if-is_indexed.false) in
     λ k.
     w.ensures k ∙ ap (λ (n : ℕ). get_or x.votes.now k 0 + n)
     ((λ u. all_votes x.stars.now (lifted r u - x.tolerance) (lifted r u + x.tolerance) k)

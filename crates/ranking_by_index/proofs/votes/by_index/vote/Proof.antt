@@ -34,12 +34,12 @@ around c =
     let w = raised-within (c.requires.1.1.1.0.at c.args.j) in
     (omega (arith, lifted c, w.0), omega (arith, lifted c, w.1))
 
-returns : tie.Need-returns-then-j-i
+returns : tie.Need-returns-then-is_same
 returns c =
     let s = c.before.before.before in
     let x = c.args in
     record {
-      added = λ stars l e k. omega (arith, adds-self (by_index x.floor x.tolerance) (q s) stars x.tolerance x.i k x.j c.if-j-i.true);
+      added = λ stars l e k. omega (arith, adds-self (by_index x.floor x.tolerance) (q s) stars x.tolerance x.i k x.j c.if-is_same.true);
     }
 
 mul-raise : tie.Need-offset_bounds-products-j
@@ -54,7 +54,7 @@ raise-requires c κs = search rules
 sub-lower : tie.Need-overflow_sub-lower
 sub-lower c = omega (arith, (around c).0, c.requires.1.1.1.1.0)
 
-returns-2 : tie.Need-returns-then-lower-floor
+returns-2 : tie.Need-returns-then-is_below
 returns-2 c =
     let r = c.before in
     let s = r.before.before.before.before.before in
@@ -63,8 +63,8 @@ returns-2 c =
       added = λ stars l e k.
           omega (
             arith,
-            adds-failed (by_index x.floor x.tolerance) (q s) stars x.tolerance x.i k x.j c.if-j-i.false
-                (lt-leb x.floor (raised (q s) - x.tolerance) (omega (arith, lifted r, c.if-lower-floor.true))),
+            adds-failed (by_index x.floor x.tolerance) (q s) stars x.tolerance x.i k x.j c.if-is_same.false
+                (lt-leb x.floor (raised (q s) - x.tolerance) (omega (arith, lifted r, c.if-is_below.true))),
           );
     }
 
@@ -87,14 +87,14 @@ returns-3 c =
     let s = t.before in
     let x = c.args in
     let b : Bytes x.index.now = λ n. (c.shared_slice_known-1.given n).fits in
-    let h : x.floor ≤ raised (q s) - x.tolerance = omega (arith, lifted r, c.if-lower-floor.false) in
+    let h : x.floor ≤ raised (q s) - x.tolerance = omega (arith, lifted r, c.if-is_below.false) in
     record {
       added = λ stars l e k.
           w.ensures k ∙ ap (λ (n : ℕ). get_or x.votes.now k 0 + n)
-          (span-all stars x.floor (c.raise-product.result - x.tolerance) (c.raise-product.result + x.tolerance) k l c.if-lower-floor.false x.index.now b e
+          (span-all stars x.floor (c.raise-product.result - x.tolerance) (c.raise-product.result + x.tolerance) k l c.if-is_below.false x.index.now b e
           ∙ (λ u. all_votes stars (lifted r u - x.tolerance) (lifted r u + x.tolerance) k)
           ∙ all_plain stars (q s) x.tolerance k l (product s).ok
-          ∙ sym (adds-passed (by_index x.floor x.tolerance) (q s) stars x.tolerance x.i k x.j c.if-j-i.false
+          ∙ sym (adds-passed (by_index x.floor x.tolerance) (q s) stars x.tolerance x.i k x.j c.if-is_same.false
           (le-leb x.floor (raised (q s) - x.tolerance) h)));
     }
 
