@@ -44,7 +44,7 @@ fn narrow(z: i64) -> i32
 }
 
 // The directions of the first `count` stars, three numbers each, and zeros behind them.
-pub(crate) fn directions_of(stars: [Centroid; 8], count: usize, settings: Settings) -> [i32; 24]
+pub fn directions_of(stars: [Centroid; 8], count: usize, settings: Settings) -> [i32; 24]
     requires { (count ≤ 8) × AllInFrame stars }
     ensures { result ≡ directions_of settings (take count stars) ++ replicate (24 - 3 * count) (pos 0) }
 {
