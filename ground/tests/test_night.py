@@ -554,6 +554,9 @@ def test_a_fault_in_one_frame_does_not_end_the_night(
 
 
 def started(*words):
+    """A run as a person's shell starts one: it hears an interrupt, which a shell that starts the
+    tests behind itself has its processes ignore.
+    """
     environment = {**os.environ, "PYTHONPATH": str(HERE)}
     return subprocess.Popen(
         [sys.executable, "-m", "mnemathor", *map(str, words)],
@@ -561,6 +564,7 @@ def started(*words):
         stdout=subprocess.PIPE,
         stderr=subprocess.PIPE,
         text=True,
+        preexec_fn=lambda: signal.signal(signal.SIGINT, signal.SIG_DFL),
     )
 
 
