@@ -9,8 +9,6 @@ use Rattle.vectors.specs.Vectors.{Within3}
 use Rattle.vectors.specs.Symbols.{det_of}
 use Rattle.vectors.specs.Unit.{NearlyUnit}
 use Rattle.attitude.specs.declared.Matrix.{Matrix}
-use Rattle.attitude.specs.declared.Attitude.{Attitude}
-use Rattle.attitude.specs.declared.Attitude.TheVariants.{Refused, Found}
 use Rattle.attitude.specs.Side.{axes_of}
 use Rattle.attitude.specs.Attitude.{matrix_of, attitude_of, attitude_answer}
 use Rattle.attitude.specs.Laws.{InRange, in-range, apart-is}
@@ -20,6 +18,8 @@ use Rattle.attitude.specs.Nearly.{Apart, NearlyOrthonormal, Carries, NearlyIdent
 use Rattle.attitude.proofs.Carry.{carries}
 use Rattle.attitude.proofs.Frame.{axes-orthonormal}
 use Rattle.attitude.proofs.Rotation.{product-rows, proper}
+use Rattle.std.specs.Prelude.{Result, Ok}
+use Rattle.refusal.specs.declared.Refusal.{Refusal}
 
 -- a number nearer to a than to 0 is positive
 above_zero : {k : ℕ} (a : ℕ) (z : ℤ) → Within k (z -ℤ pos a) → k < a → pos 0 <ℤ z
@@ -28,9 +28,9 @@ above_zero a (pos (suc n)) w h = pos-positive (omega arith)
 above_zero zero (negsuc n) w h = absurd (omega arith)
 above_zero (suc b) (negsuc n) w h = absurd (omega (arith, w.within))
 
-module _ (v1 v2 w1 w2 : Vec3) (m : Matrix) (found : attitude_of v1 v2 w1 w2 ≡ Found m) where
+module _ (v1 v2 w1 w2 : Vec3) (m : Matrix) (found : attitude_of v1 v2 w1 w2 ≡ Ok m) where
   accepted : (attitude_answer (attitude_of v1 v2 w1 w2)).number ≡ 0
-  accepted = ap (λ (a : Attitude). (attitude_answer a).number) found
+  accepted = ap (λ (a : Result Matrix Refusal). (attitude_answer a).number) found
 
   range : InRange v1 v2 w1 w2
   range = (in-range v1 v2 w1 w2).0 ((not-refused v1 v2 w1 w2).0 accepted).0

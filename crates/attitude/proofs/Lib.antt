@@ -5,6 +5,7 @@ pub mod Bounds
 pub mod Carry
 pub mod Frame
 pub mod Known
+pub mod Power
 pub mod Laws
 pub mod Rotation
 pub mod Upright

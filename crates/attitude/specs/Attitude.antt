@@ -6,11 +6,11 @@ use Rattle.refusal.specs.Answer.{Answer, refused_with, accepted_with}
 use Rattle.vectors.specs.declared.Vec3.{Vec3}
 use Rattle.vectors.specs.Vectors.{cross_of}
 use Rattle.attitude.specs.declared.Matrix.{Matrix}
-use Rattle.attitude.specs.declared.Attitude.{Attitude}
-use Rattle.attitude.specs.declared.Attitude.TheVariants.{Refused, Found}
 use Rattle.attitude.specs.Scale.{largest_of}
 use Rattle.attitude.specs.Side.{axes_of}
 use Rattle.attitude.specs.Entries.{product_of}
+use Rattle.std.specs.Prelude.{Result, Ok, Err}
+use Rattle.refusal.specs.declared.Refusal.{Refusal}
 
 -- a component of v lies beyond ±10^9
 abbrev pub beyond : Vec3 → Bool
@@ -35,8 +35,8 @@ refusals_of v1 v2 w1 w2 = row (out_of_range v1 v2 w1 w2) directions ∷ (row (ei
 unfoldable pub matrix_of : Vec3 → Vec3 → Vec3 → Vec3 → Matrix
 matrix_of v1 v2 w1 w2 = product_of (axes_of v1 v2) (axes_of w1 w2)
 
-unfoldable pub attitude_of : Vec3 → Vec3 → Vec3 → Vec3 → Attitude
-attitude_of v1 v2 w1 w2 = answered Refused (Found (matrix_of v1 v2 w1 w2)) (first_applying (refusals_of v1 v2 w1 w2))
+unfoldable pub attitude_of : Vec3 → Vec3 → Vec3 → Vec3 → Result Matrix Refusal
+attitude_of v1 v2 w1 w2 = answered Err (Ok (matrix_of v1 v2 w1 w2)) (first_applying (refusals_of v1 v2 w1 w2))
 
 -- ---- in document 01's own terms: the entries row by row
 
@@ -46,9 +46,9 @@ entries_of m =
     (m.row1.x ∷ (m.row1.y ∷ (m.row1.z ∷
     (m.row2.x ∷ (m.row2.y ∷ (m.row2.z ∷ []))))))))
 
-abbrev pub attitude_answer : Attitude → Answer
-attitude_answer (Refused r) = refused_with r.number r.place
-attitude_answer (Found m) = accepted_with (entries_of m)
+abbrev pub attitude_answer : Result Matrix Refusal → Answer
+attitude_answer (Err r) = refused_with r.number r.place
+attitude_answer (Ok m) = accepted_with (entries_of m)
 
 -- the answer that four vectors must have
 abbrev pub answer_for : Vec3 → Vec3 → Vec3 → Vec3 → Answer

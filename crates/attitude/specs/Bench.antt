@@ -5,7 +5,6 @@ use Rattle.numbers.specs.Root.{Root}
 use Rattle.refusal.specs.Numbers.{close}
 use Rattle.refusal.specs.Table.{first_applying}
 use Rattle.vectors.specs.declared.Vec3.{Vec3}
-use Rattle.attitude.specs.declared.Attitude.TheVariants.{Found}
 use Rattle.attitude.specs.Scale.{first_shift, shift_of, reduced_of}
 use Rattle.attitude.specs.Attitude.{attitude_of}
 use Rattle.attitude.specs.Laws.{refused_as}

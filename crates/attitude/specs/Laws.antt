@@ -9,8 +9,6 @@ use Rattle.std.proofs.Math.Path.{refl, subst}
 use Rattle.std.proofs.Math.IntN.{*ℤ_comm, +ℤ_invr}
 use Rattle.refusal.specs.Numbers.{directions, close}
 use Rattle.refusal.specs.declared.Refusal.{Refusal}
-use Rattle.refusal.specs.declared.Outcome.{Outcome}
-use Rattle.refusal.specs.declared.Outcome.TheVariants.{Accepted, Refused as Stopped}
 use Rattle.refusal.specs.Table.{row, first_applying, answered}
 use Rattle.refusal.specs.Laws.{Silent}
 use Rattle.refusal.proofs.Laws.{accepted-silent}
@@ -20,12 +18,11 @@ use Rattle.vectors.specs.declared.Vec3.{Vec3}
 use Rattle.vectors.specs.Vectors.{Within3, cross_of}
 use Rattle.vectors.specs.Laws.{wider3}
 use Rattle.attitude.specs.declared.Matrix.{Matrix}
-use Rattle.attitude.specs.declared.Attitude.{Attitude}
-use Rattle.attitude.specs.declared.Attitude.TheVariants.{Refused, Found}
 use Rattle.attitude.specs.Scale.{largest_of}
 use Rattle.attitude.specs.Entries.{MatrixWithin}
 use Rattle.attitude.specs.Attitude.{beyond, out_of_range, too_close, either_close, refusals_of, matrix_of, attitude_of, attitude_answer, answer_for}
 use Rattle.attitude.specs.Bounds.{largest-within, product-within}
+use Rattle.std.specs.Prelude.{Result, Ok, Err}
 
 -- ---- the two conditions, in numbers
 
@@ -80,11 +77,11 @@ apart-is v1 v2 w1 w2 =
 -- ---- which answer is given
 
 -- the answer by the two conditions alone
-abbrev pub given : Bool → Bool → Matrix → Attitude
-given a b m = answered Refused (Found m) (first_applying (row a directions ∷ (row b close ∷ [])))
+abbrev pub given : Bool → Bool → Matrix → Result Matrix Refusal
+given a b m = answered Err (Ok m) (first_applying (row a directions ∷ (row b close ∷ [])))
 
-abbrev pub refused_as : ℕ → Attitude
-refused_as n = Refused (record { number = n; place = 0 })
+abbrev pub refused_as : ℕ → Result Matrix Refusal
+refused_as n = Err (record { number = n; place = 0 })
 
 -- ---- one direction twice is too close
 

@@ -2,6 +2,7 @@
 pub mod Scale
 pub mod Side
 pub mod Entries
+pub mod Components
 pub mod Attitude
 pub mod Shift
 pub mod Bounds

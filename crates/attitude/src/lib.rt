@@ -10,7 +10,7 @@ mod side;
 ghost use Rattle.std.specs.Prelude.{◌≡◌};
 ghost use Rattle.attitude.specs.Attitude.{attitude_of, attitude_answer, answer_for};
 
-use refusal::{Outcome, Refusal};
+use refusal::Refusal;
 pub use scale::largest;
 use vectors::Vec3;
 
@@ -22,23 +22,13 @@ pub struct Matrix {
     pub row2: Vec3,
 }
 
-#[derive(Clone, Copy)]
-pub enum Attitude {
-    Refused(Refusal),
-    Found(Matrix),
-}
-
 // The attitude in which the camera sees the stars w1 and w2 in the directions v1 and v2.
-pub fn triad(v1: Vec3, v2: Vec3, w1: Vec3, w2: Vec3) -> Attitude
+pub fn triad(v1: Vec3, v2: Vec3, w1: Vec3, w2: Vec3) -> Result<Matrix, Refusal>
     ensures value { result ≡ attitude_of v1 v2 w1 w2 }
     ensures result_value { attitude_answer result ≡ answer_for v1 v2 w1 w2 }
 {
-    match refusals::tested(v1, v2, w1, w2) {
-        Outcome::Refused(refusal) => Attitude::Refused(refusal),
-        Outcome::Accepted => {
-            let camera = side::axes_of(v1, v2);
-            let sky = side::axes_of(w1, w2);
-            Attitude::Found(entries::product(camera, sky))
-        }
-    }
+    refusals::tested(v1, v2, w1, w2)?;
+    let camera = side::axes_of(v1, v2);
+    let sky = side::axes_of(w1, w2);
+    Ok(entries::product(camera, sky))
 }

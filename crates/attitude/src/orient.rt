@@ -3,14 +3,8 @@ ghost use Rattle.std.specs.Prelude.{◌≡◌, ◌+◌, ◌/◌, ◌≤◌, leng
 ghost use Rattle.search_theory.specs.Problem.{assigned};
 ghost use Rattle.attitude.specs.orient.Orient.{assigned_from, orientation_of};
 
-use crate::Attitude;
-
-// A word of an assignment as a number.
-fn number_of(word: u16) -> usize
-    ensures { result ≡ word }
-{
-    word as usize
-}
+use crate::Matrix;
+use refusal::Refusal;
 
 // The first direction from a place on that has a star, or the number of directions where none has.
 fn assigned_from(words: [u16; 8], from: usize, directions: usize, stars: usize) -> usize
@@ -18,18 +12,16 @@ fn assigned_from(words: [u16; 8], from: usize, directions: usize, stars: usize) 
     ensures value { result ≡ assigned_from words stars directions from }
     ensures upper_bound { result ≤ directions }
 {
-    let mut i = from;
-    while i < directions {
-        if number_of(words[i]) < stars {
+    for i in from..directions {
+        if usize::from(words[i]) < stars {
             return i;
         }
-        i += 1;
     }
     directions
 }
 
 // The attitude of an assignment that gives at least two directions a star.
-pub fn attitude_of(directions: &[i32], stars: &[i32], words: [u16; 8]) -> Attitude
+pub fn attitude_of(directions: &[i32], stars: &[i32], words: [u16; 8]) -> Result<Matrix, Refusal>
     requires { (length directions.now / 3 ≤ 8) × (2 ≤ assigned (length stars.now / 3) words (length directions.now / 3)) }
     ensures { result ≡ orientation_of directions.now stars.now words }
 {
@@ -40,7 +32,7 @@ pub fn attitude_of(directions: &[i32], stars: &[i32], words: [u16; 8]) -> Attitu
     crate::triad(
         vectors::triple_at(directions, i),
         vectors::triple_at(directions, j),
-        vectors::triple_at(stars, number_of(words[i])),
-        vectors::triple_at(stars, number_of(words[j])),
+        vectors::triple_at(stars, usize::from(words[i])),
+        vectors::triple_at(stars, usize::from(words[j])),
     )
 }

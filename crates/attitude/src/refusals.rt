@@ -5,29 +5,24 @@ ghost use Rattle.refusal.specs.Table.{first_applying};
 ghost use Rattle.attitude.specs.Attitude.{beyond, too_close, refusals_of};
 
 use super::scale;
-use refusal::Outcome;
+use refusal::Refusal;
 use vectors::Vec3;
 
 // How far from 0 a component may lie.
 const LARGEST: u64 = 1_000_000_000;
 
 // The tests in the order of the numbers.
-pub(crate) fn tested(v1: Vec3, v2: Vec3, w1: Vec3, w2: Vec3) -> Outcome
+#[tactic(auto, unfolding(refusal::specs::Table::first_applying))]
+pub(crate) fn tested(v1: Vec3, v2: Vec3, w1: Vec3, w2: Vec3) -> Result<(), Refusal>
     ensures { result ≡ first_applying (refusals_of v1 v2 w1 w2) }
 {
-    if out_of_range(v1, v2) {
+    if out_of_range(v1, v2) || out_of_range(w1, w2) {
         return refusal::plain(refusal::DIRECTIONS);
     }
-    if out_of_range(w1, w2) {
-        return refusal::plain(refusal::DIRECTIONS);
-    }
-    if too_close(v1, v2) {
+    if too_close(v1, v2) || too_close(w1, w2) {
         return refusal::plain(refusal::CLOSE);
     }
-    if too_close(w1, w2) {
-        return refusal::plain(refusal::CLOSE);
-    }
-    Outcome::Accepted
+    Ok(())
 }
 
 // Whether a component of the two vectors of a side lies beyond 10^9.

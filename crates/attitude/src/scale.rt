@@ -1,27 +1,22 @@
 // Magnitudes and quotients of a vector: division by the smallest power of two that brings every magnitude below 2^30.
-ghost use Rattle.std.specs.Prelude.{◌≡◌, ◌^◌, ◌<◌, max, pos, ◌<ℤ◌};
+ghost use Rattle.std.specs.Prelude.{◌≡◌, ◌^◌, ◌<◌, pos, ◌<ℤ◌};
 ghost use Rattle.vectors.specs.Vectors.{Within3};
 ghost use Rattle.attitude.specs.Scale.{largest_of, over_of, shift_of, reduced_of};
 
 use vectors::Vec3;
 
-// 2^30: d is below it, and a cross product below it belongs to two vectors that are too close.
-pub(crate) const LIMIT: u64 = 0x4000_0000;
+// A number below 2^30 has at most so many bits.
+const BITS: u32 = 30;
 
-fn larger(a: u64, b: u64) -> u64
-    ensures { result ≡ max a b }
-{
-    if a < b { b } else { a }
-}
+// 2^30: d is below it, and a cross product below it belongs to two vectors that are too close.
+pub(crate) const LIMIT: u64 = 1 << BITS;
 
 // The largest magnitude of the three.
 pub fn largest(v: Vec3) -> u64
     ensures { result ≡ largest_of v }
 {
-    larger(
-        numbers::abs(v.x),
-        larger(numbers::abs(v.y), numbers::abs(v.z)),
-    )
+    v.x.unsigned_abs()
+        .max(v.y.unsigned_abs().max(v.z.unsigned_abs()))
 }
 
 // v over n, each quotient toward zero.
@@ -30,35 +25,31 @@ pub(crate) fn over(v: Vec3, n: i64) -> Vec3
     requires pos_bound { pos 0 <ℤ n }
     ensures { result ≡ over_of v n }
 {
-    let x = v.x;
-    let y = v.y;
-    let z = v.z;
     Vec3 {
-        x: x / n,
-        y: y / n,
-        z: z / n,
+        x: v.x / n,
+        y: v.y / n,
+        z: v.z / n,
     }
 }
 
-// The smallest k for which m over 2^k is below 2^30.
-fn shift(m: u64) -> u64
+// The smallest k for which m over 2^k is below 2^30: the bits that m has beyond them.
+#[tactic(auto, using(crate::proofs::Power::shift_by_length))]
+fn shift(m: u64) -> u32
     ensures { result ≡ shift_of m }
 {
-    let mut k: u64 = 0;
-    while (m >> k) >= LIMIT {
-        k += 1;
-    }
-    k
+    (64 - m.leading_zeros()).saturating_sub(BITS)
 }
 
-fn power(k: u64) -> i64
+#[tactic(auto, using(crate::proofs::Power::power_held))]
+fn power(k: u32) -> i64
     requires { k < 63 }
     ensures { result ≡ pos (2 ^ k) }
 {
-    (1u64 << k) as i64
+    1 << k
 }
 
 // The cross product c over the smallest power of two that brings every magnitude below 2^30.
+#[tactic(auto, using(crate::specs::Bounds::shift_le), unfolding(crate::specs::Scale::reduced_of))]
 pub(crate) fn reduced(c: Vec3) -> Vec3
     requires { Within3 2000000000000000000 c }
     ensures { result ≡ reduced_of c }

@@ -3,8 +3,9 @@ ghost use Rattle.std.specs.Prelude.{◌≡◌, ◌^◌, ◌<◌, ◌≤◌, pos,
 ghost use Rattle.vectors.specs.Vectors.{Within3, cross_of};
 ghost use Rattle.attitude.specs.Scale.{largest_of};
 ghost use Rattle.attitude.specs.Side.{squares_of, unit_by, unit_of, axes_of};
+ghost use Rattle.attitude.specs.Components.{components_of};
 
-use super::scale;
+use super::{Matrix, scale};
 use vectors::Vec3;
 
 // The length of an axis.
@@ -18,14 +19,40 @@ pub struct Axes {
     pub t3: Vec3,
 }
 
+impl Axes {
+    // What the axes have of x, of y and of z, a row each.
+    pub(crate) fn components(self) -> Matrix
+        ensures { result ≡ components_of self }
+    {
+        let Axes { t1, t2, t3 } = self;
+        Matrix {
+            row0: Vec3 {
+                x: t1.x,
+                y: t2.x,
+                z: t3.x,
+            },
+            row1: Vec3 {
+                x: t1.y,
+                y: t2.y,
+                z: t3.y,
+            },
+            row2: Vec3 {
+                x: t1.z,
+                y: t2.z,
+                z: t3.z,
+            },
+        }
+    }
+}
+
 // The sum of the squares of the three.
 fn squares(d: Vec3) -> u64
     requires { Within3 1073741823 d }
     ensures { result ≡ squares_of d }
 {
-    let x = numbers::abs(d.x);
-    let y = numbers::abs(d.y);
-    let z = numbers::abs(d.z);
+    let x = d.x.unsigned_abs();
+    let y = d.y.unsigned_abs();
+    let z = d.z.unsigned_abs();
     x * x + y * y + z * z
 }
 
@@ -35,13 +62,10 @@ fn unit_by(d: Vec3, n: i64) -> Vec3
     requires pos_bound { pos 0 <ℤ n }
     ensures { result ≡ unit_by d n }
 {
-    let x = d.x;
-    let y = d.y;
-    let z = d.z;
     Vec3 {
-        x: ONE * x / n,
-        y: ONE * y / n,
-        z: ONE * z / n,
+        x: ONE * d.x / n,
+        y: ONE * d.y / n,
+        z: ONE * d.z / n,
     }
 }
 

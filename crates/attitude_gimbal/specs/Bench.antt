@@ -9,10 +9,10 @@ use Rattle.attitude.specs.declared.Matrix.{Matrix}
 use Rattle.attitude.specs.Bench.{right, down, up, out}
 use Rattle.attitude_gimbal.specs.declared.Triple.{Triple}
 use Rattle.attitude_gimbal.specs.declared.Cosines.{Cosines}
-use Rattle.attitude_gimbal.specs.declared.Gimbal.TheVariants.{Rows}
 use Rattle.attitude_gimbal.specs.Cosines.{cosine_of, gimbal_of}
 use Rattle.attitude_gimbal.specs.Target.{along_of, turned_of}
 use Rattle.attitude_gimbal.specs.Laws.{refused}
+use Rattle.std.specs.Prelude.{Ok}
 
 -- ---- one, minus one and zero, and their bits: zero is the one without a sign
 
@@ -51,11 +51,11 @@ identity = record { row0 = triple one nought nought; row1 = triple nought one no
 abbrev pub quarter_turn : Cosines
 quarter_turn = record { row0 = triple nought minus_one nought; row1 = triple one nought nought; row2 = triple nought nought one }
 
-pub case-I : gimbal_of (record { row0 = right; row1 = down; row2 = out }) ≡ Rows identity
+pub case-I : gimbal_of (record { row0 = right; row1 = down; row2 = out }) ≡ Ok identity
 unfolding gimbal_of first_applying cosine_of div of_int round
 case-I = refl
 
-pub case-J : gimbal_of (record { row0 = up; row1 = right; row2 = out }) ≡ Rows quarter_turn
+pub case-J : gimbal_of (record { row0 = up; row1 = right; row2 = out }) ≡ Ok quarter_turn
 unfolding gimbal_of first_applying cosine_of div of_int round
 case-J = refl
 
@@ -66,7 +66,7 @@ across v = record { row0 = right; row1 = v; row2 = out }
 
 pub ends-taken :
     gimbal_of (across (record { x = pos 8000000000; y = negsuc 7999999999; z = pos 0 })) ≡
-    Rows (record { row0 = triple one nought nought; row1 = triple (fin false 1 (pos 3)) (fin true 1 (pos 3)) nought; row2 = triple nought nought one })
+    Ok (record { row0 = triple one nought nought; row1 = triple (fin false 1 (pos 3)) (fin true 1 (pos 3)) nought; row2 = triple nought nought one })
 unfolding gimbal_of first_applying cosine_of div of_int round
 ends-taken = refl
 

@@ -11,8 +11,8 @@ use Rattle.attitude.specs.declared.Matrix.{Matrix}
 use Rattle.attitude.specs.Scale.{largest_of}
 use Rattle.attitude_gimbal.specs.declared.Triple.{Triple}
 use Rattle.attitude_gimbal.specs.declared.Cosines.{Cosines}
-use Rattle.attitude_gimbal.specs.declared.Gimbal.{Gimbal}
-use Rattle.attitude_gimbal.specs.declared.Gimbal.TheVariants.{Refused, Rows}
+use Rattle.std.specs.Prelude.{Result, Ok, Err}
+use Rattle.refusal.specs.declared.Refusal.{Refusal}
 
 -- the entry as a float over 10^9 as a float; `Exact` shows that neither cast loses anything
 unfoldable pub cosine_of : ℤ → Float
@@ -35,8 +35,8 @@ out_of_range m = beyond m.row0 || (beyond m.row1 || beyond m.row2)
 abbrev pub refusals_of : Matrix → List Row
 refusals_of m = row (out_of_range m) entry ∷ []
 
-unfoldable pub gimbal_of : Matrix → Gimbal
-gimbal_of m = answered Refused (Rows (rows_of m)) (first_applying (refusals_of m))
+unfoldable pub gimbal_of : Matrix → Result Cosines Refusal
+gimbal_of m = answered Err (Ok (rows_of m)) (first_applying (refusals_of m))
 
 -- ---- in the documents' own terms: the floats row by row, and the bits of each
 
@@ -49,9 +49,9 @@ cosines_floats c = triple_floats c.row0 ++ (triple_floats c.row1 ++ triple_float
 abbrev pub bits_of : List Float → List ℤ
 bits_of = map (λ (x : Float). pos (to_bits binary64 x))
 
-abbrev pub gimbal_answer : Gimbal → Answer
-gimbal_answer (Refused r) = refused_with r.number r.place
-gimbal_answer (Rows c) = accepted_with (bits_of (cosines_floats c))
+abbrev pub gimbal_answer : Result Cosines Refusal → Answer
+gimbal_answer (Err r) = refused_with r.number r.place
+gimbal_answer (Ok c) = accepted_with (bits_of (cosines_floats c))
 
 -- the answer that a matrix must have
 abbrev pub answer_for : Matrix → Answer

@@ -1,26 +1,17 @@
 -- WHAT THE FLOATS COST: an entry whose size is below 2 x 10^9 is sent as a float that is within 2 parts in 10^16 of the entry over 10^9, with its sign. So is
 -- every entry of a matrix that is nearly a rotation. Assumes nothing.
-use Rattle.std.specs.Prelude.{Bool, not, ◌≡◌, T, ℤ, pos, nat_abs, ◌-ℤ◌, Float}
-use Rattle.std.proofs.Common.{sym, ap, ◌∙◌, subst, le_trans, le_of_lt, lt_of_le_of_lt, lt_of_lt_of_le, mul-le-mul, mul-le-mul_left, mul-pos, mod-lt, div-lt_iff_lt-mul, arith, leb→le, eqb→eq, lit<, lit≤, pow-add, pow_pos, pow_mono}
+use Rattle.std.specs.Prelude.{Bool, not, ◌≡◌, T, ℤ, nat_abs, Float}
+use Rattle.std.proofs.Common.{sym, ap, subst, le_trans, lt_of_le_of_lt, mul-le-mul, mul-le-mul_left, mul-pos, mod-lt, div-lt_iff_lt-mul, arith, leb→le, eqb→eq, lit<, pow-add, pow_pos, pow_mono}
 use Prim.Native.Nat.{ℕ, zero, suc, ◌+◌, ◌-◌, ◌*◌, ◌/◌, ◌%◌, ◌^◌, ◌≤◌, ◌<◌, compare, Ordering}
 use Rattle.std.proofs.Math.Nat.{div-add-mod, div-div-eq-div-mul}
-use Rattle.std.proofs.Math.Decide.{dec_lt}
 use Rattle.std.proofs.Math.Dec.{is_le, compare_is_eq, nleb→lt}
 use Rattle.std.proofs.Math.Pow.{pow-lt}
 use Rattle.std.specs.Float.{binary64}
-use Rattle.std.specs.Float.Ieee.{size, nearest, units, round}
+use Rattle.std.specs.Float.Ieee.{size, nearest, round}
 use Rattle.std.specs.Float.Ieee.Digits.{size-le}
 use Rattle.std.specs.Float.Ieee.Exact.{HasValue, units_val}
-use Rattle.std.specs.Float.Ieee.Fits.{nearest-le, kept-lt, core, round_is}
-use Rattle.numbers.specs.Within.{Within}
-use Rattle.numbers.specs.Squares.{not-above}
-use Rattle.numbers.specs.Split.{within-as}
-use Rattle.vectors.specs.declared.Vec3.{Vec3}
-use Rattle.vectors.specs.Vectors.{Within3, dot_of}
-use Rattle.vectors.specs.Unit.{NearlyUnit, dot-squares}
+use Rattle.std.specs.Float.Ieee.Fits.{nearest-le, kept-lt, round_is}
 use Rattle.attitude.specs.declared.Matrix.{Matrix}
-use Rattle.attitude.specs.Side.{squares_of}
-use Rattle.attitude.specs.Nearly.{NearlyRotation}
 use Rattle.floats.specs.Whole.{negative}
 use Rattle.attitude_gimbal.specs.Cosines.{cosine_of, rows_of}
 use Rattle.attitude_gimbal.specs.Exact.{rounded-once}

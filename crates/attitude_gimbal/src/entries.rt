@@ -21,13 +21,10 @@ fn row(v: Vec3) -> Triple
     requires { Within3 8000000000 v }
     ensures { result ≡ row_of v }
 {
-    let x = v.x;
-    let y = v.y;
-    let z = v.z;
     Triple {
-        x: cosine(x),
-        y: cosine(y),
-        z: cosine(z),
+        x: cosine(v.x),
+        y: cosine(v.y),
+        z: cosine(v.z),
     }
 }
 

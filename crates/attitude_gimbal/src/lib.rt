@@ -10,7 +10,7 @@ ghost use Rattle.attitude_gimbal.specs.Cosines.{gimbal_of, gimbal_answer, answer
 ghost use Rattle.attitude_gimbal.specs.Target.{along_of, turned_of, ToTheBit3};
 
 use attitude::Matrix;
-use refusal::{Outcome, Refusal};
+use refusal::Refusal;
 
 // Three floats: a row of direction cosines, or a target direction.
 #[derive(Clone, Copy)]
@@ -28,21 +28,13 @@ pub struct Cosines {
     pub row2: Triple,
 }
 
-#[derive(Clone, Copy)]
-pub enum Gimbal {
-    Refused(Refusal),
-    Rows(Cosines),
-}
-
 // The direction cosines of a matrix.
-pub fn cosines_of(m: Matrix) -> Gimbal
+pub fn cosines_of(m: Matrix) -> Result<Cosines, Refusal>
     ensures value { result ≡ gimbal_of m }
     ensures result_value { gimbal_answer result ≡ answer_for m }
 {
-    match refusals::tested(m) {
-        Outcome::Refused(refusal) => Gimbal::Refused(refusal),
-        Outcome::Accepted => Gimbal::Rows(entries::rows(m)),
-    }
+    refusals::tested(m)?;
+    Ok(entries::rows(m))
 }
 
 // A row by the target: the three products, added from left to right.

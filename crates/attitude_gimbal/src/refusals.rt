@@ -4,7 +4,7 @@ ghost use Rattle.refusal.specs.Table.{first_applying};
 ghost use Rattle.attitude_gimbal.specs.Cosines.{beyond, out_of_range, refusals_of};
 
 use attitude::Matrix;
-use refusal::Outcome;
+use refusal::Refusal;
 use vectors::Vec3;
 
 // How far from 0 an entry may lie.
@@ -21,20 +21,14 @@ fn row_beyond(v: Vec3) -> bool
 fn out_of_range(m: Matrix) -> bool
     ensures { result ≡ out_of_range m }
 {
-    if row_beyond(m.row0) {
-        return true;
-    }
-    if row_beyond(m.row1) {
-        return true;
-    }
-    row_beyond(m.row2)
+    row_beyond(m.row0) || row_beyond(m.row1) || row_beyond(m.row2)
 }
 
-pub(crate) fn tested(m: Matrix) -> Outcome
+pub(crate) fn tested(m: Matrix) -> Result<(), Refusal>
     ensures { result ≡ first_applying (refusals_of m) }
 {
     if out_of_range(m) {
         return refusal::plain(refusal::ENTRY);
     }
-    Outcome::Accepted
+    Ok(())
 }

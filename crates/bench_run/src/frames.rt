@@ -1,10 +1,7 @@
 // Cases A to F and T to W: verdicts on pixels of 7 x 7 frames, and the counts of each frame's list.
-ghost use Rattle.std.specs.Prelude.{◌<◌, ◌≤◌};
-
 use crate::say;
-use frame_list::Judgement;
-use frame_verdict::Kind;
-use refusal::Outcome;
+use frame_verdict::{Kind, Verdict};
+use refusal::Refusal;
 use std::io;
 
 fn kind(rt: &impl Print, kind: Kind) -> io::Result<()> {
@@ -22,10 +19,10 @@ fn kind(rt: &impl Print, kind: Kind) -> io::Result<()> {
     }
 }
 
-fn judgement(rt: &impl Print, judgement: Judgement) -> io::Result<()> {
+fn judgement(rt: &impl Print, judgement: Result<Verdict, Refusal>) -> io::Result<()> {
     match judgement {
-        Judgement::Refused(refusal) => say::refused(rt, refusal),
-        Judgement::Judged(verdict) => {
+        Err(refusal) => say::refused(rt, refusal),
+        Ok(verdict) => {
             let found = verdict.kind;
             kind(rt, found)
         }
@@ -52,13 +49,13 @@ fn counts(rt: &impl Print, letter: &str, samples: &[u16], threshold: usize) -> i
     let listing = frame_list::list(samples, 7, 7, threshold);
     let outcome = listing.outcome;
     match outcome {
-        Outcome::Refused(refusal) => say::refused(rt, refusal)?,
-        Outcome::Accepted => {
+        Err(refusal) => say::refused(rt, refusal)?,
+        Ok(()) => {
             let report = listing.report;
             say::text(rt, " counts")?;
-            say::number(rt, report.measured as u64)?;
-            say::number(rt, report.edge as u64)?;
-            say::number(rt, report.lone as u64)?;
+            say::number(rt, report.measured)?;
+            say::number(rt, report.edge)?;
+            say::number(rt, report.lone)?;
         }
     }
     say::end(rt)
@@ -67,28 +64,14 @@ fn counts(rt: &impl Print, letter: &str, samples: &[u16], threshold: usize) -> i
 // Whether the pixel's verdict is beaten.
 fn is_beaten(samples: &[u16], threshold: usize, row: usize, column: usize) -> bool {
     let answer = frame_list::judge(samples, 7, 7, threshold, row, column);
-    match answer {
-        Judgement::Refused(_) => false,
-        Judgement::Judged(verdict) => {
-            let found = verdict.kind;
-            frame_verdict::kind_number(found) == 1
-        }
-    }
-}
-
-fn one(b: bool) -> u64
-    ensures { result ≤ 1 }
-{
-    if b { 1 } else { 0 }
+    answer.is_ok_and(|verdict| matches!(verdict.kind, Kind::Beaten))
 }
 
 // How many pixels of the frame are beaten.
-fn beaten_pixels(samples: &[u16], threshold: usize) -> u64 {
-    let mut number: u64 = 0;
-    for k in 0..49 {
-        number += one(is_beaten(samples, threshold, k / 7, k % 7));
-    }
-    number
+fn beaten_pixels(samples: &[u16], threshold: usize) -> usize {
+    (0..49)
+        .filter(|k| is_beaten(samples, threshold, k / 7, k % 7))
+        .count()
 }
 
 fn beaten(rt: &impl Print, letter: &str, samples: &[u16], threshold: usize) -> io::Result<()> {
@@ -98,43 +81,33 @@ fn beaten(rt: &impl Print, letter: &str, samples: &[u16], threshold: usize) -> i
     say::end(rt)
 }
 
-// A peak of 100 in the middle.
-fn peak(rt: &impl Print, letter: &str, threshold: usize) -> io::Result<()> {
+// A frame that is dark but for some samples, each behind its place.
+fn frame(lit: &[(usize, u16)]) -> [u16; 49] {
     let mut samples = [0u16; 49];
-    samples[24] = 100;
-    pixel(rt, letter, &samples, threshold, 3, 3)?;
-    counts(rt, letter, &samples, threshold)
+    for (place, sample) in lit {
+        if let Some(dark) = samples.get_mut(*place) {
+            *dark = *sample;
+        }
+    }
+    samples
 }
 
-// The same with one other sample.
-fn peak_with(
-    rt: &impl Print,
-    letter: &str,
-    place: usize,
-    sample: u16,
-    threshold: usize,
-) -> io::Result<()>
-    requires { place < 49 }
-{
-    let mut samples = [0u16; 49];
-    samples[24] = 100;
-    samples[place] = sample;
+// The verdict on the pixel in the middle, and the counts.
+fn middle(rt: &impl Print, letter: &str, lit: &[(usize, u16)], threshold: usize) -> io::Result<()> {
+    let samples = frame(lit);
     pixel(rt, letter, &samples, threshold, 3, 3)?;
     counts(rt, letter, &samples, threshold)
 }
 
 fn case_b(rt: &impl Print) -> io::Result<()> {
-    let mut samples = [0u16; 49];
-    samples[24] = 100;
-    samples[25] = 100;
+    let samples = frame(&[(24, 100), (25, 100)]);
     pixel(rt, "B", &samples, 50, 3, 3)?;
     pixel(rt, "B", &samples, 50, 3, 4)?;
     counts(rt, "B", &samples, 50)
 }
 
 fn case_e(rt: &impl Print) -> io::Result<()> {
-    let mut samples = [0u16; 49];
-    samples[23] = 100;
+    let samples = frame(&[(23, 100)]);
     pixel(rt, "E", &samples, 50, 3, 2)?;
     counts(rt, "E", &samples, 50)
 }
@@ -147,27 +120,17 @@ fn case_f(rt: &impl Print) -> io::Result<()> {
 }
 
 pub fn run(rt: &impl Print) -> io::Result<()> {
-    peak(rt, "A", 50)?;
+    middle(rt, "A", &[(24, 100)], 50)?;
     case_b(rt)?;
-    peak_with(rt, "C", 23, 50, 50)?;
-    peak_with(rt, "D", 0, 24, 50)?;
+    middle(rt, "C", &[(24, 100), (23, 50)], 50)?;
+    middle(rt, "D", &[(24, 100), (0, 24)], 50)?;
     case_e(rt)?;
     case_f(rt)
 }
 
-fn case_t(rt: &impl Print) -> io::Result<()> {
-    let mut samples = [0u16; 49];
-    samples[24] = 100;
-    samples[23] = 50;
-    samples[25] = 50;
-    samples[0] = 24;
-    pixel(rt, "T", &samples, 50, 3, 3)?;
-    counts(rt, "T", &samples, 50)
-}
-
 pub fn run_lone(rt: &impl Print) -> io::Result<()> {
-    case_t(rt)?;
-    peak_with(rt, "U", 16, 25, 51)?;
-    peak_with(rt, "V", 16, 24, 51)?;
-    peak(rt, "W", 1)
+    middle(rt, "T", &[(24, 100), (23, 50), (25, 50), (0, 24)], 50)?;
+    middle(rt, "U", &[(24, 100), (16, 25)], 51)?;
+    middle(rt, "V", &[(24, 100), (16, 24)], 51)?;
+    middle(rt, "W", &[(24, 100)], 1)
 }

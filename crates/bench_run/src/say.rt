@@ -1,6 +1,7 @@
 // What the program prints: words and numbers, each after a space, on lines that start with the case's letter.
 use attitude_gimbal::Triple;
 use refusal::Refusal;
+use std::fmt::Display;
 use std::io;
 use vectors::Vec3;
 
@@ -12,18 +13,15 @@ pub fn end(rt: &impl Print) -> io::Result<()> {
     text(rt, "\n")
 }
 
-pub fn number(rt: &impl Print, n: u64) -> io::Result<()> {
+// A number of any type.
+pub fn number(rt: &impl Print, n: impl Display + Drop) -> io::Result<()> {
     print!(rt; " {n}")
 }
 
-pub fn signed(rt: &impl Print, z: i64) -> io::Result<()> {
-    print!(rt; " {z}")
-}
-
 pub fn vector(rt: &impl Print, v: Vec3) -> io::Result<()> {
-    signed(rt, v.x)?;
-    signed(rt, v.y)?;
-    signed(rt, v.z)
+    number(rt, v.x)?;
+    number(rt, v.y)?;
+    number(rt, v.z)
 }
 
 pub fn triple(rt: &impl Print, t: Triple) -> io::Result<()> {
@@ -34,6 +32,6 @@ pub fn triple(rt: &impl Print, t: Triple) -> io::Result<()> {
 
 pub fn refused(rt: &impl Print, refusal: Refusal) -> io::Result<()> {
     text(rt, " refused")?;
-    number(rt, refusal.number as u64)?;
-    number(rt, refusal.place as u64)
+    number(rt, refusal.number)?;
+    number(rt, refusal.place)
 }

@@ -1,9 +1,8 @@
 // Cases G to S: directions, attitudes, direction cosines and searches.
 use crate::say;
-use attitude::Attitude;
-use attitude_gimbal::Gimbal;
-use camera_direction::{Direction, camera};
-use refusal::Outcome;
+use attitude_gimbal::Cosines;
+use camera_direction::camera;
+use refusal::Refusal;
 use std::io;
 use vectors::Vec3;
 
@@ -13,8 +12,8 @@ fn direction(rt: &impl Print, letter: &str, cx: i64, x: i64) -> io::Result<()> {
     say::text(rt, letter)?;
     let answer = camera::direction_of(cx, 0, camera_lens::of_settings(16384), x, 0);
     match answer {
-        Direction::Refused(refusal) => say::refused(rt, refusal)?,
-        Direction::Found(v) => say::vector(rt, v)?,
+        Err(refusal) => say::refused(rt, refusal)?,
+        Ok(v) => say::vector(rt, v)?,
     }
     say::end(rt)
 }
@@ -30,30 +29,25 @@ fn attitude(
     say::text(rt, letter)?;
     let answer = attitude::triad(v1, v2, w1, w2);
     match answer {
-        Attitude::Refused(refusal) => say::refused(rt, refusal)?,
-        Attitude::Found(matrix) => {
-            let row0 = matrix.row0;
-            let row1 = matrix.row1;
-            let row2 = matrix.row2;
-            say::vector(rt, row0)?;
-            say::vector(rt, row1)?;
-            say::vector(rt, row2)?;
+        Err(refusal) => say::refused(rt, refusal)?,
+        Ok(matrix) => {
+            for row in [matrix.row0, matrix.row1, matrix.row2] {
+                say::vector(rt, row)?;
+            }
         }
     }
     say::end(rt)
 }
 
 // What the gimbal computer is sent: each float by its bits.
-fn rows(rt: &impl Print, gimbal: Gimbal) -> io::Result<()> {
+fn rows(rt: &impl Print, gimbal: Result<Cosines, Refusal>) -> io::Result<()> {
     match gimbal {
-        Gimbal::Refused(refusal) => say::refused(rt, refusal),
-        Gimbal::Rows(cosines) => {
-            let row0 = cosines.row0;
-            let row1 = cosines.row1;
-            let row2 = cosines.row2;
-            say::triple(rt, row0)?;
-            say::triple(rt, row1)?;
-            say::triple(rt, row2)
+        Err(refusal) => say::refused(rt, refusal),
+        Ok(cosines) => {
+            for row in [cosines.row0, cosines.row1, cosines.row2] {
+                say::triple(rt, row)?;
+            }
+            Ok(())
         }
     }
 }
@@ -70,8 +64,8 @@ fn cosines(
     say::text(rt, " cosines")?;
     let answer = attitude::triad(v1, v2, w1, w2);
     match answer {
-        Attitude::Refused(refusal) => say::refused(rt, refusal)?,
-        Attitude::Found(matrix) => rows(rt, attitude_gimbal::cosines_of(matrix))?,
+        Err(refusal) => say::refused(rt, refusal)?,
+        Ok(matrix) => rows(rt, attitude_gimbal::cosines_of(matrix))?,
     }
     say::end(rt)
 }
@@ -79,7 +73,7 @@ fn cosines(
 // A star's record number, or "-" for none, which is the number of stars.
 fn star(rt: &impl Print, word: u16) -> io::Result<()> {
     if word < 3 {
-        say::number(rt, word as u64)
+        say::number(rt, word)
     } else {
         say::text(rt, " -")
     }
@@ -87,11 +81,8 @@ fn star(rt: &impl Print, word: u16) -> io::Result<()> {
 
 // The stars of the first directions: three, or four where there is a fourth.
 fn stars(rt: &impl Print, words: [u16; 8], directions: usize) -> io::Result<()> {
-    star(rt, words[0])?;
-    star(rt, words[1])?;
-    star(rt, words[2])?;
-    if 3 < directions {
-        star(rt, words[3])?;
+    for word in words.iter().take(directions.max(3).min(4)) {
+        star(rt, *word)?;
     }
     Ok(())
 }
@@ -109,8 +100,8 @@ fn search(
     let answer = search::search(directions, catalogue, 3, tolerance, ranking);
     let outcome = answer.outcome;
     match outcome {
-        Outcome::Refused(refusal) => say::refused(rt, refusal)?,
-        Outcome::Accepted => {
+        Err(refusal) => say::refused(rt, refusal)?,
+        Ok(()) => {
             let words = answer.stars;
             stars(rt, words, directions.len() / 3)?;
         }

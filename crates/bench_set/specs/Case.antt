@@ -3,21 +3,19 @@
 use Rattle.std.specs.Prelude.{◌≡◌, List, [], ◌∷◌, ℕ, ◌<◌, ℤ}
 use Rattle.vectors.specs.declared.Vec3.{Vec3}
 use Rattle.frame_verdict.specs.declared.Kind.{Kind}
-use Rattle.frame_list.specs.declared.Judgement.{Judgement}
-use Rattle.frame_list.specs.declared.Judgement.TheVariants.{Judged}
 use Rattle.frame_list.specs.Calls.{judgement_of}
-use Rattle.camera_direction.specs.declared.Direction.{Direction}
 use Rattle.camera_lens.specs.declared.Lens.{Lens}
 use Rattle.camera_direction.specs.camera.Camera.{direction_of}
-use Rattle.attitude.specs.declared.Attitude.{Attitude}
-use Rattle.attitude.specs.declared.Attitude.TheVariants as turned
 use Rattle.attitude.specs.Attitude.{attitude_of}
-use Rattle.attitude_gimbal.specs.declared.Gimbal.{Gimbal}
-use Rattle.attitude_gimbal.specs.declared.Gimbal.TheVariants.{Refused}
 use Rattle.attitude_gimbal.specs.Cosines.{gimbal_of}
 use Rattle.search.specs.declared.Identification.{Identification}
 use Rattle.search.specs.Identified.{Identified, identification_of}
 use Rattle.bench_set.specs.Frames.{side}
+use Rattle.std.specs.Prelude.{Result, Ok, Err}
+use Rattle.refusal.specs.declared.Refusal.{Refusal}
+use Rattle.frame_verdict.specs.declared.Verdict.{Verdict}
+use Rattle.attitude.specs.declared.Matrix.{Matrix}
+use Rattle.attitude_gimbal.specs.declared.Cosines.{Cosines}
 
 pub data Case : Type 0 where
   -- samples, threshold, row and column of a pixel, and its verdict
@@ -25,21 +23,21 @@ pub data Case : Type 0 where
   -- the same of every pixel but that one
   others : List ℕ → ℕ → ℕ → ℕ → Kind → Case
   -- cx, cy, the lens, x and y
-  direction : ℤ → ℤ → Lens → ℤ → ℤ → Direction → Case
+  direction : ℤ → ℤ → Lens → ℤ → ℤ → Result Vec3 Refusal → Case
   -- two vectors of the camera, and their stars
-  attitude : Vec3 → Vec3 → Vec3 → Vec3 → Attitude → Case
+  attitude : Vec3 → Vec3 → Vec3 → Vec3 → Result Matrix Refusal → Case
   -- the same four vectors, and what the gimbal computer is sent of their attitude
-  cosines : Vec3 → Vec3 → Vec3 → Vec3 → Gimbal → Case
+  cosines : Vec3 → Vec3 → Vec3 → Vec3 → Result Cosines Refusal → Case
   -- directions, catalogue, needed count, tolerance and ranking
   search : List ℤ → List ℕ → ℕ → ℕ → List ℕ → Identification → Case
 
-abbrev pub judged_as : ℕ → ℕ → Kind → Judgement
-judged_as row column kind = Judged (record { row = row; column = column; kind = kind })
+abbrev pub judged_as : ℕ → ℕ → Kind → Result Verdict Refusal
+judged_as row column kind = Ok (record { row = row; column = column; kind = kind })
 
 -- the direction cosines of the matrix that an attitude gives
-abbrev pub sent_of : Attitude → Gimbal
-sent_of (turned.Refused r) = Refused r
-sent_of (turned.Found m) = gimbal_of m
+abbrev pub sent_of : Result Matrix Refusal → Result Cosines Refusal
+sent_of (Err r) = Err r
+sent_of (Ok m) = gimbal_of m
 
 -- For a search, besides the answer computed, whatever keeps demand 3 is the answer
 abbrev pub Holds : Case → Type 0

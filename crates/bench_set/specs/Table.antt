@@ -2,23 +2,20 @@
 -- rule over threes, T to W for T-06's rule, and the matrices of I and J as T-08's direction cosines. Where a case names only some numbers of a verdict
 -- the rest follow from the same rules, worked out by hand. Assumes nothing.
 use Rattle.std.specs.Prelude.{List, [], ◌∷◌, ◌++◌, ℕ, ℤ, pos, neg_ℤ}
-use Rattle.refusal.specs.declared.Outcome.TheVariants.{Accepted}
 use Rattle.vectors.specs.declared.Vec3.{Vec3}
 use Rattle.frame_verdict.specs.declared.Kind.{Kind}
 use Rattle.frame_verdict.specs.declared.Kind.TheVariants.{Beaten, Edge, Lone, Measured}
-use Rattle.camera_direction.specs.declared.Direction.{Direction}
-use Rattle.camera_direction.specs.declared.Direction.TheVariants as toward
 use Rattle.camera_lens.specs.Stated.{settings_lens}
-use Rattle.attitude.specs.declared.Attitude.{Attitude}
-use Rattle.attitude.specs.declared.Attitude.TheVariants as turned
 use Rattle.attitude_gimbal.specs.declared.Triple.{Triple}
-use Rattle.attitude_gimbal.specs.declared.Gimbal.{Gimbal}
-use Rattle.attitude_gimbal.specs.declared.Gimbal.TheVariants.{Rows}
 use Rattle.attitude_gimbal.specs.Bench.{one, minus_one, nought, triple}
 use Rattle.search.specs.declared.Identification.{Identification}
 use Rattle.search.specs.Identified.{refused_with, pad_to}
 use Rattle.bench_set.specs.Frames.{lit, evenly, frame_of}
 use Rattle.bench_set.specs.Case.{Case, pixel, others, direction, attitude, cosines, search}
+use Rattle.std.specs.Prelude.{Result, Ok, Err}
+use Rattle.refusal.specs.declared.Refusal.{Refusal}
+use Rattle.attitude.specs.declared.Matrix.{Matrix}
+use Rattle.attitude_gimbal.specs.declared.Cosines.{Cosines}
 
 -- ---- answers, in document 01's numbers
 
@@ -31,22 +28,22 @@ minus n = neg_ℤ (pos n)
 abbrev pub vec : ℤ → ℤ → ℤ → Vec3
 vec x y z = record { x = x; y = y; z = z }
 
-abbrev pub found : Vec3 → Direction
-found v = toward.Found v
+abbrev pub found : Vec3 → Result Vec3 Refusal
+found v = Ok v
 
-abbrev pub rows : Vec3 → Vec3 → Vec3 → Attitude
-rows a b c = turned.Found (record { row0 = a; row1 = b; row2 = c })
+abbrev pub rows : Vec3 → Vec3 → Vec3 → Result Matrix Refusal
+rows a b c = Ok (record { row0 = a; row1 = b; row2 = c })
 
-abbrev pub unturned : ℕ → Attitude
-unturned number = turned.Refused (record { number = number; place = 0 })
+abbrev pub unturned : ℕ → Result Matrix Refusal
+unturned number = Err (record { number = number; place = 0 })
 
 -- rows of floats: `one` is exactly 1, and `nought` is 0 without a sign
-abbrev pub sent : Triple → Triple → Triple → Gimbal
-sent a b c = Rows (record { row0 = a; row1 = b; row2 = c })
+abbrev pub sent : Triple → Triple → Triple → Result Cosines Refusal
+sent a b c = Ok (record { row0 = a; row1 = b; row2 = c })
 
 -- the stars of the directions; a word behind the last direction is 0
 abbrev pub stars : List ℕ → Identification
-stars words = record { outcome = Accepted; stars = pad_to 8 words }
+stars words = record { outcome = Ok tt; stars = pad_to 8 words }
 
 abbrev pub unfound : ℕ → Identification
 unfound number = refused_with (record { number = number; place = 0 })

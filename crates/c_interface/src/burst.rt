@@ -6,7 +6,7 @@ ghost use Rattle.c_numbers.specs.Room.{handed_over};
 ghost use Rattle.c_interface.specs.track.Chain.{settings_of};
 ghost use Rattle.c_numbers.specs.Numbers.{counted_numbers};
 
-use chain::Settings;
+use crate::track::stated_settings;
 
 // Each frame of a burst through the whole chain: how many records were written.
 #[unsafe(no_mangle)]
@@ -36,16 +36,7 @@ pub extern "C" fn mnemathor_burst(
         room.old records.old))) out.old }
 {
     let lens = camera_lens::stated(kind, first, second);
-    let settings = Settings {
-        width,
-        height,
-        threshold,
-        needed,
-        cx,
-        cy,
-        lens,
-        tolerance,
-    };
+    let settings = stated_settings(width, height, threshold, cx, cy, lens, needed, tolerance);
     let answer = chain_burst::track(samples, catalogue, settings, room, records);
     c_numbers::hand_over(out, c_numbers::of_counted(answer));
 }

@@ -9,8 +9,7 @@ ghost use Rattle.c_numbers.specs.Room.{handed_over};
 ghost use Rattle.c_numbers.specs.Numbers.{ranking_numbers, counted_numbers};
 ghost use Rattle.c_interface.specs.track.Chain.{settings_of, chain_numbers};
 
-use crate::track::of_chain;
-use chain::Settings;
+use crate::track::{of_chain, stated_settings};
 
 // The index of a catalogue's pairs for a floor, written into the room: how many records it has.
 #[unsafe(no_mangle)]
@@ -69,16 +68,7 @@ pub extern "C" fn mnemathor_chain_by_index(
         (settings_of width height threshold cx cy (stated_lens kind first second) needed tolerance) room.old))) out.old }
 {
     let lens = camera_lens::stated(kind, first, second);
-    let settings = Settings {
-        width,
-        height,
-        threshold,
-        needed,
-        cx,
-        cy,
-        lens,
-        tolerance,
-    };
+    let settings = stated_settings(width, height, threshold, cx, cy, lens, needed, tolerance);
     let tracked = chain_by_index::track(samples, catalogue, index, floor, settings, room);
     let stars = catalogue::records(catalogue);
     c_numbers::hand_over(out, of_chain(tracked, stars));

@@ -10,33 +10,28 @@ ghost use Rattle.c_interface.specs.camera.Lens.{focal_numbers};
 ghost use Rattle.c_interface.specs.camera.Direction.{direction_numbers};
 
 use c_numbers::{of_refusal, of_vector};
-use camera_direction::{Direction, camera};
-use camera_lens::Focal;
+use camera_direction::camera;
+use refusal::Refusal;
+use vectors::Vec3;
 
 fn of_whole(f: i64) -> [i64; 64]
     ensures { result ≡ accepted_numbers (f ∷ []) }
 {
-    let mut flat = [0i64; 64];
+    let mut flat = [0; 64];
     flat[c_numbers::OWN] = f;
     flat
 }
 
-fn of_focal(focal: Focal) -> [i64; 64]
+fn of_focal(focal: Result<i64, Refusal>) -> [i64; 64]
     ensures { result ≡ focal_numbers focal }
 {
-    match focal {
-        Focal::Refused(refusal) => of_refusal(refusal),
-        Focal::Whole(f) => of_whole(f),
-    }
+    focal.map_or_else(of_refusal, of_whole)
 }
 
-fn of_direction(direction: Direction) -> [i64; 64]
+fn of_direction(direction: Result<Vec3, Refusal>) -> [i64; 64]
     ensures { result ≡ direction_numbers direction }
 {
-    match direction {
-        Direction::Refused(refusal) => of_refusal(refusal),
-        Direction::Found(v) => of_vector(v),
-    }
+    direction.map_or_else(of_refusal, of_vector)
 }
 
 // The whole focal length of a lens.

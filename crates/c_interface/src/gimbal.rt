@@ -7,35 +7,35 @@ ghost use Rattle.c_numbers.specs.Numbers.{ranking_numbers};
 ghost use Rattle.c_interface.specs.gimbal.Cosines.{cosines_numbers, cosines_of, cosines_room};
 ghost use Rattle.c_interface.specs.gimbal.Turned.{turned_outcome, turned_room};
 
-use attitude_gimbal::Gimbal;
-use refusal::{Outcome, Refusal};
+use attitude_gimbal::Cosines;
+use refusal::Refusal;
 
 // The refusal, or nothing more: the room is the answer.
-fn of_cosines(gimbal: Gimbal) -> [i64; 64]
+// Stays: a match, which the check proves alone. With `map_or_else` it does not find that the numbers are `cosines_numbers`.
+fn of_cosines(gimbal: Result<Cosines, Refusal>) -> [i64; 64]
     ensures { result ≡ cosines_numbers gimbal }
 {
     match gimbal {
-        Gimbal::Refused(refusal) => c_numbers::of_refusal(refusal),
-        Gimbal::Rows(_) => [0i64; 64],
+        Err(refusal) => c_numbers::of_refusal(refusal),
+        Ok(_) => [0; 64],
     }
 }
 
 // The direction cosines of a matrix of nine entries by rows, put into the room. Refused with 18 without room for nine floats, and with 23 for another count of
 // entries: what is handed in is no matrix.
-fn put_cosines_in(matrix: &[i64], rows: &mut [f64]) -> Gimbal
+#[tactic(auto, unfolding(crate::specs::gimbal::Cosines::cosines_of, crate::specs::gimbal::Cosines::cosines_room))]
+fn put_cosines_in(matrix: &[i64], rows: &mut [f64]) -> Result<Cosines, Refusal>
     ensures rows_after { rows.new ≡ cosines_room matrix.now rows.old }
     ensures value { result ≡ cosines_of matrix.now rows.old }
 {
-    let is_short = rows.len() < 9;
-    if is_short {
-        return Gimbal::Refused(Refusal {
+    if rows.len() < 9 {
+        return Err(Refusal {
             number: refusal::RECORDS_ROOM,
             place: 0,
         });
     }
-    let is_no_matrix = matrix.len() != 9;
-    if is_no_matrix {
-        return Gimbal::Refused(Refusal {
+    if matrix.len() != 9 {
+        return Err(Refusal {
             number: refusal::ENTRY,
             place: 0,
         });
@@ -57,12 +57,12 @@ pub extern "C" fn mnemathor_cosines(matrix: &[i64], rows: &mut [f64], out: &mut 
 
 // Each of three rows by a target of three floats, put into the room. Refused with 8 where the target is not three floats, with 18 without room for three,
 // and with 23 where the rows are not nine floats.
-fn put_turned(rows: &[f64], target: &[f64], turned: &mut [f64]) -> Outcome
+#[tactic(auto, unfolding(crate::specs::gimbal::Turned::turned_outcome, crate::specs::gimbal::Turned::turned_room, refusal::specs::Table::first_applying))]
+fn put_turned(rows: &[f64], target: &[f64], turned: &mut [f64]) -> Result<(), Refusal>
     ensures turned_after { turned.new ≡ turned_room rows.now target.now turned.old }
     ensures value { result ≡ turned_outcome (length rows.now) (length target.now) (length turned.old) }
 {
-    let is_no_target = target.len() != 3;
-    if is_no_target {
+    if target.len() != 3 {
         return refusal::plain(refusal::DIRECTIONS);
     }
     if turned.len() < 3 {
@@ -73,7 +73,7 @@ fn put_turned(rows: &[f64], target: &[f64], turned: &mut [f64]) -> Outcome
     }
     let answer = attitude_gimbal::turned(rooms::cosines_in(rows), rooms::triple_at(target, 0));
     rooms::put_triple(turned, answer);
-    Outcome::Accepted
+    Ok(())
 }
 
 // Each of three rows by a target, three floats.

@@ -8,9 +8,10 @@ ghost use Rattle.c_numbers.specs.Numbers.{ranking_numbers};
 ghost use Rattle.c_interface.specs.guide.Guider.{started_in, start_room, start_outcome, framed_in, frame_room, frame_outcome};
 
 use guider_rule::Guided;
-use refusal::Outcome;
+use refusal::Refusal;
 
 // Refusal 22 too where the numbers are not in threes.
+#[tactic(auto, unfolding(crate::specs::guide::Guider::started_in))]
 fn start_in(half: i64, stars: &[i64]) -> Guided
     ensures { result ≡ started_in half stars.now }
 {
@@ -25,17 +26,17 @@ fn start_in(half: i64, stars: &[i64]) -> Guided
 }
 
 // The guider of a start that is accepted, put into the room. A room that has no place for exactly 18 numbers is no guider's: refusal 22.
-fn put_start(half: i64, stars: &[i64], guider: &mut [i64]) -> Outcome
+#[tactic(auto, unfolding(crate::specs::guide::Guider::start_room, crate::specs::guide::Guider::start_outcome))]
+fn put_start(half: i64, stars: &[i64], guider: &mut [i64]) -> Result<(), Refusal>
     ensures guider_after { guider.new ≡ start_room half stars.now guider.old }
     ensures value { result ≡ start_outcome half stars.now guider.old }
 {
-    if guider.len() != rooms::NUMBERS {
+    let Some(room) = guider.as_mut_array() else {
         return refusal::plain(refusal::GUIDER);
-    }
+    };
     let started = start_in(half, stars);
-    let outcome = started.outcome;
-    rooms::put_started(guider, started);
-    outcome
+    rooms::put_started(room, started);
+    started.outcome
 }
 
 // A guider for these stars, three numbers each: identity, x and y. A refused call leaves the room as it is.
@@ -53,6 +54,7 @@ pub extern "C" fn mnemathor_guider_start(
     c_numbers::hand_over(out, c_numbers::of_ranking(outcome));
 }
 
+#[tactic(auto, unfolding(crate::specs::guide::Guider::framed_in))]
 fn frame_in(room: &[i64], list: &[i64]) -> Guided
     ensures { result ≡ framed_in room.now list.now }
 {
@@ -60,21 +62,20 @@ fn frame_in(room: &[i64], list: &[i64]) -> Guided
 }
 
 // The guider after a frame that is accepted, put into the room. Other than 18 numbers are no guider and other than 64 no list: refusal 22.
-fn put_frame(guider: &mut [i64], list: &[i64]) -> Outcome
+#[tactic(auto, unfolding(crate::specs::guide::Guider::frame_room, crate::specs::guide::Guider::frame_outcome))]
+fn put_frame(guider: &mut [i64], list: &[i64]) -> Result<(), Refusal>
     ensures guider_after { guider.new ≡ frame_room guider.old list.now }
     ensures value { result ≡ frame_outcome guider.old list.now }
 {
-    if guider.len() != rooms::NUMBERS {
+    if list.len() != 64 {
         return refusal::plain(refusal::GUIDER);
     }
-    let is_no_list = list.len() != 64;
-    if is_no_list {
+    let Some(room) = guider.as_mut_array() else {
         return refusal::plain(refusal::GUIDER);
-    }
-    let framed = frame_in(&guider[0..18], list);
-    let outcome = framed.outcome;
-    rooms::put_framed(guider, framed);
-    outcome
+    };
+    let framed = frame_in(room, list);
+    rooms::put_framed(room, framed);
+    framed.outcome
 }
 
 // The guider after a frame, whose list is handed in as mnemathor_list hands it over. A refused call leaves the room as it is.

@@ -12,7 +12,7 @@ ghost use Rattle.c_numbers.specs.Numbers.{ranking_numbers, counted_numbers};
 ghost use Rattle.c_interface.specs.identify.Search.{search_numbers};
 ghost use Rattle.c_interface.specs.identify.Attitude.{attitude_numbers, attitude_in};
 
-use attitude::Attitude;
+use attitude::Matrix;
 use c_numbers::vector_at;
 use refusal::Refusal;
 
@@ -64,11 +64,11 @@ pub extern "C" fn mnemathor_search(
 
 // The attitude of four vectors, three numbers each: camera v1 and v2, star v1 and v2. Another count of numbers is no list of four: refusal 8.
 #[tactic(auto, unfolding(crate::specs::identify::Attitude::attitude_in))]
-fn attitude_in(vectors: &[i64]) -> Attitude
+fn attitude_in(vectors: &[i64]) -> Result<Matrix, Refusal>
     ensures { result ≡ attitude_in vectors.now }
 {
     if vectors.len() != 12 {
-        return Attitude::Refused(Refusal {
+        return Err(Refusal {
             number: refusal::DIRECTIONS,
             place: 0,
         });

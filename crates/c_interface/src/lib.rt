@@ -1,4 +1,5 @@
 // The functions that C may call, a module for each area. Each hands its answer over as numbers (`c_numbers`), and adds no rule of its own.
+// Stays: a lens's `kind` is a number in the exports, since C hands it over.
 #![tactic(auto)]
 
 pub mod burst;

@@ -1,5 +1,5 @@
 // The C interface of the call that says whether another identification fits.
-ghost use Rattle.std.specs.Prelude.{◌≡◌, cond};
+ghost use Rattle.std.specs.Prelude.{◌≡◌};
 ghost use Rattle.camera_direction.specs.ListLaws.{directions_in};
 ghost use Rattle.catalogue.specs.Format.{records_in};
 ghost use Rattle.search_rival.specs.Contested.{contest_of};
@@ -9,31 +9,14 @@ ghost use Rattle.c_interface.specs.rival.Rival.{rival_numbers};
 use c_numbers::{NAMES, of_count, of_outcome, put_names};
 use search_rival::Contest;
 
-// A number where there is a rival, and 0 where ours is alone.
-fn if_rival(rival: bool, n: usize) -> usize
-    ensures { result ≡ cond rival n 0 }
-{
-    if rival {
-        return n;
-    }
-    0
-}
-
 // What the call hands over: whether there is a rival, and the star of each direction there.
 fn of_rival(contest: Contest, directions: usize, stars: usize) -> [i64; 64]
     ensures { result ≡ rival_numbers directions stars contest }
 {
-    let outcome = contest.outcome;
-    let rival = contest.rival;
-    let words = contest.stars;
-    let named = put_names(
-        of_count(if_rival(rival, 1)),
-        NAMES,
-        words,
-        if_rival(rival, directions),
-        stars,
-    );
-    of_outcome(outcome, named)
+    let named = if contest.rival { directions } else { 0 };
+    let mut flat = of_count(usize::from(contest.rival));
+    put_names(&mut flat, NAMES, contest.stars, named, stars);
+    of_outcome(contest.outcome, flat)
 }
 
 // Whether the search's answer is alone, or the first of its rivals.

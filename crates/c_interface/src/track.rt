@@ -8,19 +8,49 @@ ghost use Rattle.c_interface.specs.track.Chain.{settings_of, chain_numbers};
 
 use crate::frame::answers::of_report;
 use c_numbers::{CHAIN_MATRIX, CHAIN_NAMES, of_outcome, put_matrix, put_names};
+use camera_lens::Lens;
 use chain::{Settings, Tracked};
 
 // What a chain hands over: the frame's list, the star of each listed direction, and the matrix.
 pub fn of_chain(tracked: Tracked, stars: usize) -> [i64; 64]
     ensures { result ≡ chain_numbers stars tracked }
 {
-    let outcome = tracked.outcome;
-    let report = tracked.report;
-    let words = tracked.stars;
-    let matrix = tracked.matrix;
-    let count = report.count;
-    let named = put_names(of_report(report), CHAIN_NAMES, words, count, stars);
-    of_outcome(outcome, put_matrix(named, CHAIN_MATRIX, matrix))
+    let mut flat = of_report(tracked.report);
+    put_names(
+        &mut flat,
+        CHAIN_NAMES,
+        tracked.stars,
+        tracked.report.count,
+        stars,
+    );
+    put_matrix(&mut flat, CHAIN_MATRIX, tracked.matrix);
+    of_outcome(tracked.outcome, flat)
+}
+
+// The settings of a chain.
+// Stays: each setting a parameter of its own, since C hands them over one by one.
+pub(crate) fn stated_settings(
+    width: usize,
+    height: usize,
+    threshold: usize,
+    cx: i64,
+    cy: i64,
+    lens: Lens,
+    needed: usize,
+    tolerance: u64,
+) -> Settings
+    ensures { result ≡ settings_of width height threshold cx cy lens needed tolerance }
+{
+    Settings {
+        width,
+        height,
+        threshold,
+        needed,
+        cx,
+        cy,
+        lens,
+        tolerance,
+    }
 }
 
 // The whole chain: the frame's list, the stars that it shows, and the attitude.
@@ -48,16 +78,7 @@ pub extern "C" fn mnemathor_chain(
         (settings_of width height threshold cx cy (stated_lens kind first second) needed tolerance) room.old))) out.old }
 {
     let lens = camera_lens::stated(kind, first, second);
-    let settings = Settings {
-        width,
-        height,
-        threshold,
-        needed,
-        cx,
-        cy,
-        lens,
-        tolerance,
-    };
+    let settings = stated_settings(width, height, threshold, cx, cy, lens, needed, tolerance);
     let tracked = chain::track(samples, catalogue, settings, room);
     let stars = catalogue::records(catalogue);
     c_numbers::hand_over(out, of_chain(tracked, stars));

@@ -1,14 +1,11 @@
 -- What is read at its place is what was put there. Assumes nothing.
-use Rattle.std.specs.Prelude.{Bool, true, false, cond, ◌≡◌, refl, List, [], ◌∷◌, ◌++◌, map, ℕ, zero, suc, ◌+◌, ◌-◌, ◌≤◌, ◌<◌, leb, ℤ, pos, negsuc, length, get_or, take, drop, replicate}
-use Rattle.std.proofs.Common.{sym, ap, ◌∙◌, arith, lt-ltb, le-ltb, leb-true, leb-false, length-append, length-drop, drop_at, ext_get_or, take_at}
-use Rattle.std.proofs.Math.Decide.{dec_lt}
-use Rattle.std.proofs.lemmas.List.{length-map, length-replicate, drop-append-le, take-append-le}
-use Rattle.std.proofs.Math.ListN.{get_or-append, get_or-map}
-use Rattle.std.proofs.Math.Seq.{get_or-append_seam}
-use Rattle.c_numbers.specs.Room.{size, padded, handed_over}
+use Rattle.std.specs.Prelude.{Bool, true, false, cond, ◌≡◌, refl, List, ◌++◌, map, ℕ, ◌<◌, leb, ℤ, pos, negsuc, length, get_or, take}
+use Rattle.std.proofs.Common.{sym, ap, ◌∙◌, arith, lt-ltb, leb-true, leb-false, drop_at, ext_get_or, take_at}
+use Rattle.std.proofs.lemmas.List.{length-map}
+use Rattle.std.proofs.Math.ListN.{get_or-map}
 use Rattle.numbers.specs.TwosComplement.{signed_of}
-use Rattle.c_numbers.specs.Stars.{joined, name_at, names_numbers}
-use Rattle.c_numbers.specs.Places.{read_at, refusal_in, word_in, words_at}
+use Rattle.c_numbers.specs.Stars.{name_at, names_numbers}
+use Rattle.c_numbers.specs.Places.{word_in, words_at}
 use Rattle.c_numbers.specs.PlaceLaws.{names-length, name-at, Named}
 
 module _ (words : List ℕ) (directions stars : ℕ) (N : Named words directions stars) where

@@ -2,12 +2,9 @@
 use Rattle.std.specs.Prelude.{List, [], ◌∷◌, ℕ, ◌+◌, get_or, set, ℤ, pos}
 use Rattle.numbers.specs.TwosComplement.{signed_of}
 use Rattle.refusal.specs.declared.Refusal.{Refusal}
-use Rattle.refusal.specs.declared.Outcome.{Outcome}
-use Rattle.refusal.specs.declared.Outcome.TheVariants.{Accepted, Refused}
-use Rattle.refusal.specs.declared.Counted.{Counted}
-use Rattle.refusal.specs.declared.Counted.TheVariants as counted
 use Rattle.vectors.specs.declared.Vec3.{Vec3}
 use Rattle.c_numbers.specs.Room.{padded}
+use Rattle.std.specs.Prelude.{Result, Ok, Err}
 
 abbrev pub refused_numbers : Refusal → List ℤ
 refused_numbers r = padded (signed_of r.number ∷ (signed_of r.place ∷ []))
@@ -17,18 +14,18 @@ abbrev pub accepted_numbers : List ℤ → List ℤ
 accepted_numbers xs = padded (pos 0 ∷ (pos 0 ∷ xs))
 
 -- the numbers of a call that is accepted, or those of its refusal
-abbrev pub outcome_numbers : Outcome → List ℤ → List ℤ
-outcome_numbers Accepted numbers = numbers
-outcome_numbers (Refused r) numbers = refused_numbers r
+abbrev pub outcome_numbers : Result Unit Refusal → List ℤ → List ℤ
+outcome_numbers (Ok _) numbers = numbers
+outcome_numbers (Err r) numbers = refused_numbers r
 
 -- a ranking hands over nothing more: the room is its answer
-abbrev pub ranking_numbers : Outcome → List ℤ
+abbrev pub ranking_numbers : Result Unit Refusal → List ℤ
 ranking_numbers outcome = outcome_numbers outcome (accepted_numbers [])
 
 -- a count, or the refusal of the call that counts
-abbrev pub counted_numbers : Counted → List ℤ
-counted_numbers (counted.Refused r) = refused_numbers r
-counted_numbers (counted.Count n) = accepted_numbers (signed_of n ∷ [])
+abbrev pub counted_numbers : Result ℕ Refusal → List ℤ
+counted_numbers (Err r) = refused_numbers r
+counted_numbers (Ok n) = accepted_numbers (signed_of n ∷ [])
 
 abbrev pub vector_numbers : Vec3 → List ℤ
 vector_numbers v = v.x ∷ (v.y ∷ (v.z ∷ []))

@@ -1,13 +1,12 @@
 -- What is read at its place is what was put there. Assumes nothing.
-use Rattle.std.specs.Prelude.{Bool, true, false, cond, ◌≡◌, refl, List, [], ◌∷◌, ◌++◌, map, ℕ, zero, suc, ◌+◌, ◌-◌, ◌≤◌, ◌<◌, leb, ℤ, pos, negsuc, length, get_or, take, drop, replicate}
-use Rattle.std.proofs.Common.{sym, ap, ◌∙◌, arith, lt-ltb, le-ltb, leb-true, leb-false, length-append, length-drop, drop_at, ext_get_or, take_at}
+use Rattle.std.specs.Prelude.{◌≡◌, refl, List, [], ◌∷◌, ◌++◌, map, ℕ, zero, suc, ◌+◌, ◌-◌, ◌≤◌, ◌<◌, ℤ, pos, length, get_or, take, drop, replicate}
+use Rattle.std.proofs.Common.{sym, ap, ◌∙◌, arith, le-ltb, length-append, length-drop}
 use Rattle.std.proofs.Math.Decide.{dec_lt}
-use Rattle.std.proofs.lemmas.List.{length-map, length-replicate, drop-append-le, take-append-le}
-use Rattle.std.proofs.Math.ListN.{get_or-append, get_or-map}
+use Rattle.std.proofs.lemmas.List.{length-replicate, drop-append-le, take-append-le}
+use Rattle.std.proofs.Math.ListN.{get_or-append}
 use Rattle.std.proofs.Math.Seq.{get_or-append_seam}
 use Rattle.c_numbers.specs.Room.{size, padded, handed_over}
-use Rattle.numbers.specs.TwosComplement.{signed_of}
-use Rattle.c_numbers.specs.Stars.{joined, name_at, names_numbers}
+use Rattle.c_numbers.specs.Stars.{joined}
 use Rattle.c_numbers.specs.Places.{read_at, refusal_in, word_in, words_at}
 
 -- ---- the room that is lent

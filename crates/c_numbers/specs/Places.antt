@@ -1,10 +1,10 @@
 -- Where an answer's numbers stand among the 64, and what a caller reads there. Assumes nothing.
 use Rattle.std.specs.Prelude.{cond, List, map, ℕ, ◌+◌, eqb, ℤ, pos, negsuc, nat_abs, get_or, take, drop}
-use Rattle.refusal.specs.declared.Outcome.{Outcome}
-use Rattle.refusal.specs.declared.Outcome.TheVariants.{Accepted}
 use Rattle.refusal.specs.Table.{refusal_of}
 use Rattle.attitude.specs.declared.Matrix.{Matrix}
 use Rattle.c_numbers.specs.Numbers.{vector_at}
+use Rattle.std.specs.Prelude.{Result, Ok}
+use Rattle.refusal.specs.declared.Refusal.{Refusal}
 
 -- the number and the place of a refusal
 abbrev pub number_place : ℕ
@@ -38,8 +38,8 @@ abbrev pub read_at : List ℤ → ℕ → ℤ
 read_at xs k = get_or xs k (pos 0)
 
 -- accepted where the number is 0
-abbrev pub refusal_in : List ℤ → Outcome
-refusal_in xs = cond (eqb (nat_abs (read_at xs number_place)) 0) Accepted (refusal_of (nat_abs (read_at xs number_place)) (nat_abs (read_at xs place_place)))
+abbrev pub refusal_in : List ℤ → Result Unit Refusal
+refusal_in xs = cond (eqb (nat_abs (read_at xs number_place)) 0) (Ok tt) (refusal_of (nat_abs (read_at xs number_place)) (nat_abs (read_at xs place_place)))
 
 -- number at + 3 r + c is entry r, c of the matrix
 abbrev pub matrix_at : List ℤ → ℕ → Matrix

@@ -16,9 +16,12 @@ star_numbers s = signed_of s.x ∷ (signed_of s.y ∷ (signed_of s.brightness �
 abbrev pub stars_numbers : List Centroid → List ℤ
 stars_numbers stars = joined (λ (k : ℕ). star_numbers (get_or stars k nought)) 8
 
--- the star of direction i by its record number, -1 for none, and 0 behind the directions
+-- the star of direction i by its word: its record number, -1 for none, and 0 behind the directions
+abbrev pub name_of : ℕ → ℕ → ℕ → ℕ → ℤ
+name_of word directions stars i = cond (leb directions i) (pos 0) (cond (leb stars word) (negsuc 0) (signed_of word))
+
 abbrev pub name_at : List ℕ → ℕ → ℕ → ℕ → ℤ
-name_at words directions stars i = cond (leb directions i) (pos 0) (cond (leb stars (get_or words i 0)) (negsuc 0) (signed_of (get_or words i 0)))
+name_at words directions stars i = name_of (get_or words i 0) directions stars i
 
 -- the stars of eight directions
 abbrev pub names_numbers : List ℕ → ℕ → ℕ → List ℤ

@@ -16,12 +16,12 @@ ghost use Rattle.c_numbers.specs.Numbers.{
 };
 ghost use Rattle.c_numbers.specs.Room.{handed_over};
 ghost use Rattle.c_numbers.specs.Matrix.{matrix_numbers, with_matrix};
-ghost use Rattle.c_numbers.specs.Stars.{with_star, with_stars, name_at, with_names};
+ghost use Rattle.c_numbers.specs.Stars.{with_star, with_stars, name_of, with_names};
 
 use attitude::Matrix;
 use frame_centroid::Centroid;
 use numbers::signed;
-use refusal::{Counted, Outcome, Refusal};
+use refusal::Refusal;
 use vectors::Vec3;
 
 // Where the numbers stand: a refusal's two, and the answer's own, which begin behind them.
@@ -42,63 +42,58 @@ pub const CHAIN_NAMES: usize = 30;
 pub const CHAIN_MATRIX: usize = 38;
 
 // A refusal: its number and its place.
+// Stays: functions `of_..` and no `From`, which would need a type of its own round the 64 numbers, opened again at each export.
 pub fn of_refusal(refusal: Refusal) -> [i64; 64]
     ensures { result ≡ refused_numbers refusal }
 {
-    let mut flat = [0i64; 64];
-    flat[NUMBER] = signed(refusal.number as u64);
+    let mut flat = [0; 64];
+    flat[NUMBER] = signed(u64::from(refusal.number));
     flat[PLACE] = signed(refusal.place as u64);
     flat
 }
 
 // The numbers of a call that is accepted, or those of its refusal.
-pub fn of_outcome(outcome: Outcome, accepted: [i64; 64]) -> [i64; 64]
+// Stays: a match, which the check proves alone. With `map_or_else` it does not find that the numbers are `outcome_numbers`.
+pub fn of_outcome(outcome: Result<(), Refusal>, accepted: [i64; 64]) -> [i64; 64]
     ensures { result ≡ outcome_numbers outcome accepted }
 {
     match outcome {
-        Outcome::Accepted => accepted,
-        Outcome::Refused(refusal) => of_refusal(refusal),
+        Ok(()) => accepted,
+        Err(refusal) => of_refusal(refusal),
     }
 }
 
 // A ranking has no numbers of its own: the room is its answer.
-pub fn of_ranking(outcome: Outcome) -> [i64; 64]
+pub fn of_ranking(outcome: Result<(), Refusal>) -> [i64; 64]
     ensures { result ≡ ranking_numbers outcome }
 {
-    of_outcome(outcome, [0i64; 64])
+    of_outcome(outcome, [0; 64])
 }
 
 pub fn of_count(n: usize) -> [i64; 64]
     ensures { result ≡ accepted_numbers (signed_of n ∷ []) }
 {
-    let mut flat = [0i64; 64];
+    let mut flat = [0; 64];
     flat[OWN] = signed(n as u64);
     flat
 }
 
 // A count, or the refusal of the call that counts.
-pub fn of_counted(counted: Counted) -> [i64; 64]
+pub fn of_counted(counted: Result<usize, Refusal>) -> [i64; 64]
     ensures { result ≡ counted_numbers counted }
 {
-    match counted {
-        Counted::Refused(refusal) => of_refusal(refusal),
-        Counted::Count(n) => of_count(n),
-    }
+    counted.map_or_else(of_refusal, of_count)
 }
 
-// A vector's numbers from a place on.
-fn put_vector(flat: [i64; 64], at: usize, v: Vec3) -> [i64; 64]
+// Puts a vector's numbers from a place on.
+// Stays: the numbers and a place among them, here and below, and no struct of both, since each call has another place.
+fn put_vector(flat: &mut [i64; 64], at: usize, v: Vec3)
     requires { at ≤ 61 }
-    ensures { result ≡ with_vector flat at v }
+    ensures { flat.new ≡ with_vector flat.old at v }
 {
-    let x = v.x;
-    let y = v.y;
-    let z = v.z;
-    let mut put = flat;
-    put[at] = x;
-    put[at + 1] = y;
-    put[at + 2] = z;
-    put
+    flat[at] = v.x;
+    flat[at + 1] = v.y;
+    flat[at + 2] = v.z;
 }
 
 // Three numbers of a lent list, from a place on.
@@ -116,86 +111,71 @@ pub fn vector_at(numbers: &[i64], i: usize) -> Vec3
 pub fn of_vector(v: Vec3) -> [i64; 64]
     ensures { result ≡ accepted_numbers (vector_numbers v) }
 {
-    put_vector([0i64; 64], OWN, v)
+    let mut flat = [0; 64];
+    put_vector(&mut flat, OWN, v);
+    flat
 }
 
-// A matrix's numbers from a place on, row by row.
-pub fn put_matrix(flat: [i64; 64], at: usize, matrix: Matrix) -> [i64; 64]
+// Puts a matrix's numbers from a place on, row by row.
+pub fn put_matrix(flat: &mut [i64; 64], at: usize, matrix: Matrix)
     requires { at ≤ 55 }
-    ensures { result ≡ with_matrix flat at matrix }
+    ensures { flat.new ≡ with_matrix flat.old at matrix }
 {
-    let first = put_vector(flat, at, matrix.row0);
-    let second = put_vector(first, at + 3, matrix.row1);
-    put_vector(second, at + 6, matrix.row2)
+    put_vector(flat, at, matrix.row0);
+    put_vector(flat, at + 3, matrix.row1);
+    put_vector(flat, at + 6, matrix.row2);
 }
 
 pub fn of_matrix(matrix: Matrix) -> [i64; 64]
     ensures { result ≡ accepted_numbers (matrix_numbers matrix) }
 {
-    put_matrix([0i64; 64], OWN, matrix)
+    let mut flat = [0; 64];
+    put_matrix(&mut flat, OWN, matrix);
+    flat
 }
 
-// A star's position and brightness from a place on.
-pub fn put_star(flat: [i64; 64], at: usize, star: Centroid) -> [i64; 64]
+// Puts a star's position and brightness from a place on.
+pub fn put_star(flat: &mut [i64; 64], at: usize, star: Centroid)
     requires { at ≤ 61 }
-    ensures { result ≡ with_star flat at star }
+    ensures { flat.new ≡ with_star flat.old at star }
 {
-    let mut put = flat;
-    put[at] = signed(star.x);
-    put[at + 1] = signed(star.y);
-    put[at + 2] = signed(star.brightness);
-    put
+    flat[at] = signed(star.x);
+    flat[at + 1] = signed(star.y);
+    flat[at + 2] = signed(star.brightness);
 }
 
-// A frame's eight stars, at their place.
-pub fn put_stars(flat: [i64; 64], stars: [Centroid; 8]) -> [i64; 64]
-    ensures { result ≡ with_stars stars 8 flat }
+// Puts a frame's eight stars, at their place.
+pub fn put_stars(flat: &mut [i64; 64], stars: [Centroid; 8])
+    ensures { flat.new ≡ with_stars stars 8 flat.old }
 {
-    let mut put = flat;
-    let mut k: usize = 0;
-    while k < 8 {
-        let star = stars[k];
-        let next = put_star(put, STARS + 3 * k, star);
-        put = next;
-        k += 1;
+    for (k, star) in stars.iter().enumerate() {
+        put_star(flat, STARS + 3 * k, *star);
     }
-    put
 }
 
 // The star of direction i by its record number, -1 for none, and 0 behind the directions.
-fn name_at(words: [u16; 8], i: usize, directions: usize, stars: usize) -> i64
-    requires { i ≤ 7 }
-    ensures { result ≡ name_at words directions stars i }
+// Stays: a number for none, since that is what C reads of mnemathor_search.
+fn name_of(word: u16, i: usize, directions: usize, stars: usize) -> i64
+    ensures { result ≡ name_of word directions stars i }
 {
-    if directions <= i {
-        return 0;
+    let word = usize::from(word);
+    if i >= directions {
+        0
+    } else if word >= stars {
+        -1
+    } else {
+        signed(word as u64)
     }
-    let word = words[i] as usize;
-    if stars <= word {
-        return -1;
-    }
-    signed(word as u64)
 }
 
-// The stars of eight directions from a place on.
-pub fn put_names(
-    flat: [i64; 64],
-    at: usize,
-    words: [u16; 8],
-    directions: usize,
-    stars: usize,
-) -> [i64; 64]
+// Puts the stars of eight directions from a place on.
+pub fn put_names(flat: &mut [i64; 64], at: usize, words: [u16; 8], directions: usize, stars: usize)
     requires { at ≤ 56 }
-    ensures { result ≡ with_names at words directions stars 8 flat }
+    ensures { flat.new ≡ with_names at words directions stars 8 flat.old }
 {
-    let mut put = flat;
-    let mut i: usize = 0;
-    while i < 8 {
-        let name = name_at(words, i, directions, stars);
-        put[at + i] = name;
-        i += 1;
+    for (i, word) in words.iter().enumerate() {
+        flat[at + i] = name_of(*word, i, directions, stars);
     }
-    put
 }
 
 // Puts the numbers at the start of the room, and leaves a room that is too short as it is.
@@ -206,9 +186,5 @@ pub fn hand_over(out: &mut [i64], flat: [i64; 64])
     if is_short {
         return;
     }
-    let mut i: usize = 0;
-    while i < 64 {
-        out[i] = flat[i];
-        i += 1;
-    }
+    out[..64].copy_from_slice(&flat);
 }

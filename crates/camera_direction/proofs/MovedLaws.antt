@@ -1,15 +1,15 @@
 -- What an error of a position does to its direction: where both numbers of the position are off by at most p, in 256ths of a pixel, each number of the
 -- direction is off by at most 3 x 10^9 p / F and 2, all rounding included. Assumes nothing.
 use Rattle.std.specs.Prelude.{[], ◌∷◌, ◌≡◌, ℕ, ◌+◌, ◌*◌, ◌≤◌, ◌<◌, ℤ, pos, ◌+ℤ◌, ◌-ℤ◌, ◌*ℤ◌}
-use Rattle.std.proofs.Common.{sym, ap, ◌∙◌, le_refl, le_trans, mul-le-mul, mul-le-mul_left, arith}
+use Rattle.std.proofs.Common.{ap, ◌∙◌, le_refl, le_trans, mul-le-mul, mul-le-mul_left, arith}
 use Rattle.std.proofs.Math.Decide.{dec_le}
 use Rattle.std.proofs.Math.IntN.{nat_abs, +ℤ_invr}
 use Rattle.numbers.specs.Abs.{abs-add}
 use Rattle.numbers.specs.Within.{Within, wider, within-add, within-sub, within-mul}
-use Rattle.numbers.specs.Root.{root, root_is, square-next}
+use Rattle.numbers.specs.Root.{root_is}
 use Rattle.numbers.specs.Solver.{var, num, ◌⊕◌, ◌⊖◌, ◌⊗◌}
 use Rattle.numbers.proofs.Solver.{ring}
-use Rattle.numbers.specs.Split.{Split, split, within-as, within_none, within-pos, cut}
+use Rattle.numbers.specs.Split.{split, within-as, within_none, within-pos, cut}
 use Rattle.numbers.specs.Squares.{apart-within}
 use Rattle.vectors.specs.Vectors.{Within3}
 use Rattle.vectors.specs.Symbols.{less_of}

@@ -1,3 +1,4 @@
 -- The laws of the definitions in specs/.
 pub mod Laws
 pub mod LengthLaws
+pub mod Lens

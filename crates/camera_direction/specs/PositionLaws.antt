@@ -1,13 +1,10 @@
 -- What N is, and how large N and a direction are: N is at least 256 times each offset, so that a direction stays within ±10^9. Assumes nothing.
 use Rattle.std.specs.Prelude.{◌≡◌, ℕ, ◌+◌, ◌*◌, ◌≤◌, ℤ, nat_abs}
 use Rattle.std.proofs.Common.{sym, mul-le-mul, le_trans, arith}
-use Rattle.std.proofs.Math.Nat.{div-le_of_le-mul}
 use Rattle.std.proofs.Math.Decide.{dec_le}
-use Rattle.numbers.specs.Abs.{abs-mul, abs-quot}
 use Rattle.numbers.specs.Within.{Within}
 use Rattle.numbers.specs.Root.{Root, root, root_is, root-of, square-root}
-use Rattle.vectors.specs.Vectors.{Within3}
-use Rattle.camera_direction.specs.Position.{square, norm_of, scaled_of, toward_of}
+use Rattle.camera_direction.specs.Position.{square, norm_of}
 
 -- N by its own squares: whatever number has them is N
 pub norm-by : (x y f : ℤ) {n : ℕ} → Root (65536 * (square x + square y + square f)) n → norm_of x y f ≡ n

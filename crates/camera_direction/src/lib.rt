@@ -14,13 +14,6 @@ ghost use Rattle.camera_direction.specs.Direction.{direction_of, direction_answe
 use refusal::Refusal;
 use vectors::Vec3;
 
-// What a position's direction is, or why it is refused.
-#[derive(Clone, Copy)]
-pub enum Direction {
-    Refused(Refusal),
-    Found(Vec3),
-}
-
 // Whether a list holds at most 8 directions, three numbers each, every number within ±10^9.
 #[tactic(auto, unfolding(crate::specs::List::list_ok))]
 pub fn list_ok(directions: &[i32]) -> bool
@@ -36,17 +29,17 @@ pub fn list_ok(directions: &[i32]) -> bool
 }
 
 // Refusal 5, for the centre and for a position alike.
-fn refused() -> Direction
+fn refused() -> Result<Vec3, Refusal>
     ensures { result ≡ Rattle.camera_direction.specs.Direction.out_of_range }
 {
-    Direction::Refused(Refusal {
+    Err(Refusal {
         number: refusal::SETTINGS,
         place: 0,
     })
 }
 
 // The direction of a position, in 1/256 pixel, for a focal length that is in range.
-pub fn direction_by_focal(cx: i64, cy: i64, focal: i64, x: i64, y: i64) -> Direction
+pub fn direction_by_focal(cx: i64, cy: i64, focal: i64, x: i64, y: i64) -> Result<Vec3, Refusal>
     requires { Between 16384 4194304 focal }
     ensures value { result ≡ direction_of cx cy focal x y }
     ensures result_value { direction_answer result ≡ answer_for cx cy focal x y }
@@ -57,5 +50,5 @@ pub fn direction_by_focal(cx: i64, cy: i64, focal: i64, x: i64, y: i64) -> Direc
     if !settings::position_ok(x, y) {
         return refused();
     }
-    Direction::Found(position::toward(x - cx, y - cy, focal))
+    Ok(position::toward(x - cx, y - cy, focal))
 }

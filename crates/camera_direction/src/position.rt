@@ -12,11 +12,10 @@ fn norm(x: i64, y: i64, focal: i64) -> u64
     requires within_3 { Within 4194304 focal }
     ensures { result ≡ norm_of x y focal }
 {
-    let a = numbers::abs(x);
-    let b = numbers::abs(y);
-    let c = numbers::abs(focal);
-    let cc = c * c;
-    numbers::root(65536 * (a * a + b * b + cc))
+    let a = x.unsigned_abs();
+    let b = y.unsigned_abs();
+    let c = focal.unsigned_abs();
+    numbers::root(65536 * (a * a + b * b + c * c))
 }
 
 // The direction of the ray through the position.

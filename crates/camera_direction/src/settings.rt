@@ -6,10 +6,7 @@ ghost use Rattle.camera_direction.specs.Settings.{place_ok, position_ok};
 fn between(low: i64, high: i64, v: i64) -> bool
     ensures { result ≡ Rattle.camera_direction.specs.Settings.between low high v }
 {
-    if low <= v {
-        return v <= high;
-    }
-    false
+    low <= v && v <= high
 }
 
 // Whether v, in 1/256 pixel, lies on the largest frame.
@@ -23,8 +20,5 @@ fn place_ok(v: i64) -> bool
 pub fn position_ok(x: i64, y: i64) -> bool
     ensures { result ≡ position_ok x y }
 {
-    if place_ok(x) {
-        return place_ok(y);
-    }
-    false
+    place_ok(x) && place_ok(y)
 }

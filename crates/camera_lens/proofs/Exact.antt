@@ -1,14 +1,11 @@
 -- 256 q is exact where q is in range, and how its whole part is taken. Assumes nothing.
-use Rattle.std.specs.Prelude.{◌≡◌, ℕ, zero, suc, ◌+◌, ◌-◌, ◌*◌, ◌/◌, ◌^◌, ◌<◌, ◌≤◌, min, true, false, T, pos, Float}
-use Rattle.std.proofs.Common.{true≢false, sym, ◌∙◌, subst, lt_of_lt_of_le, mul-one, zero-mul, mul_comm, mul_right_comm, mul-lt-mul_of_pos_right, lt_of_mul-lt-mul_right, mul-le-mul_right, div-lt_iff_lt-mul, lit≤}
-use Rattle.std.proofs.Math.Path.{ap}
+use Rattle.std.specs.Prelude.{◌≡◌, ℕ, zero, suc, ◌*◌, ◌^◌, ◌<◌, ◌≤◌, true, false, T, pos, Float}
+use Rattle.std.proofs.Common.{true≢false, sym, subst, lt_of_lt_of_le, mul-one, zero-mul, mul_comm, mul-le-mul_right, lit≤}
 use native.Mathlib.Omega.{arith}
-use Rattle.std.proofs.Math.Dec.{lt→ltb}
-use Rattle.std.specs.Float.Ieee.{nan, up, down, round, mul, lt, to_unsigned, fits}
+use Rattle.std.specs.Float.Ieee.{nan, up, down, round, mul, fits}
 use Rattle.std.specs.Float.{inf, fin, binary64}
 use Rattle.std.specs.Float.Ieee.Fits.{down_pos}
 use Rattle.std.specs.Float.Ieee.Exact.{HasValue}
-use Rattle.std.specs.Float.Ieee.Nearest.{div_same}
 use Rattle.std.specs.Float.Ieee.Positive.{num, den}
 use Rattle.floats.specs.Scaled.{scaled_exact}
 use Rattle.camera_lens.specs.Lens.{in_range}

@@ -1,35 +1,12 @@
 -- What the focal length of a lens comes to: when it is refused, and which whole number it is. Assumes nothing.
-use Rattle.std.specs.Prelude.{◌≡◌, ℕ, ◌+◌, ◌*◌, ◌/◌, ◌<◌, ◌≤◌, Bool, true, false, not, ◌&&◌, ◌↔◌, ℤ, pos, Float}
-use Rattle.std.proofs.Math.Path.{refl, ap}
+use Rattle.std.specs.Prelude.{◌≡◌, ℕ, ◌+◌, ◌*◌, ◌/◌, ◌<◌, ◌≤◌, Bool, true, false, ◌&&◌, Float}
+use Rattle.std.proofs.Math.Path.{refl}
 use Rattle.std.proofs.Common.{sym, ◌∙◌, subst, div-mul-le_self, div-lt_iff_lt-mul, le-div_iff_mul-le, mul_comm}
 use Rattle.std.proofs.Math.Nat.{le_of_suc-le-suc, lt-mul-div-succ, div-eq_of_lt-le}
 use Rattle.std.specs.Float.Ieee.Positive.{num, den, den_pos}
-use Rattle.lists.specs.Contradiction.{contradiction}
-use Rattle.refusal.specs.declared.Refusal.{Refusal}
-use Rattle.refusal.specs.declared.Outcome.{Outcome}
-use Rattle.refusal.specs.Numbers.{lens}
-use Rattle.refusal.specs.Table.{first_applying, answered}
-use Rattle.refusal.specs.Laws.{Silent}
-use Rattle.refusal.proofs.Laws.{applying-here, silent-accepted}
-use Rattle.refusal.specs.AnswerLaws.{answer_by}
-use Rattle.refusal.proofs.AnswerLaws.{answered-by}
 use Rattle.camera_lens.specs.declared.Lens.{Lens}
 use Rattle.camera_lens.specs.declared.Lens.TheVariants.{Pixels}
-use Rattle.camera_lens.specs.declared.Focal.TheVariants.{Refused, Whole}
-use Rattle.camera_lens.specs.Lens.{
-  pixels_of,
-  above_zero,
-  all_above,
-  in_range,
-  whole_of,
-  lens_ok,
-  focal_number,
-  refusals_of,
-  focal_of,
-  out_of_range,
-  focal_answer,
-  answer_for,
-}
+use Rattle.camera_lens.specs.Lens.{pixels_of, above_zero, all_above, in_range, whole_of, lens_ok, focal_number}
 use Rattle.lists.specs.TestsLaws.{both_true}
 use Rattle.camera_lens.specs.Range.{between, range-above, whole-of}
 use Rattle.camera_lens.specs.Laws.{Below}

@@ -3,12 +3,12 @@ use Rattle.std.specs.Prelude.{◌≡◌, true, false, pos, negsuc, refl, Float}
 use Rattle.std.specs.Float.{fin}
 use Rattle.std.specs.Float.Ieee.{of_int, round, mul, div, lt}
 use Rattle.refusal.specs.Table.{first_applying}
-use Rattle.camera_lens.specs.declared.Focal.TheVariants.{Whole}
 use Rattle.camera_lens.specs.declared.Lens.TheVariants.{Millimetres, Pixels}
 use Rattle.camera_lens.specs.Lens.{in_range, whole_of, lens_ok, focal_number, focal_of, out_of_range}
+use Rattle.std.specs.Prelude.{Ok}
 
 -- 12 mm at 7.5 micrometres
-pub plate : focal_of (Millimetres (fin false 3 (pos 2)) (fin false 15 (negsuc 0))) ≡ Whole (pos 409600)
+pub plate : focal_of (Millimetres (fin false 3 (pos 2)) (fin false 15 (negsuc 0))) ≡ Ok (pos 409600)
 unfolding focal_of lens_ok focal_number first_applying in_range whole_of lt mul div of_int round
 plate = refl
 
@@ -19,7 +19,7 @@ plate-below-zero = refl
 
 -- ---- the ends of the range, of 256 q: 16,384 is taken, and the float before it is not
 
-pub least-taken : focal_of (Pixels (fin false 1 (pos 6))) ≡ Whole (pos 16384)
+pub least-taken : focal_of (Pixels (fin false 1 (pos 6))) ≡ Ok (pos 16384)
 unfolding focal_of lens_ok focal_number first_applying in_range whole_of lt
 least-taken = refl
 
@@ -29,11 +29,11 @@ below-least = refl
 
 -- 4,194,304.5 is taken, as 4,194,304, and so is the last float before 4,194,305, which is not
 
-pub half-above : focal_of (Pixels (fin false 8388609 (negsuc 8))) ≡ Whole (pos 4194304)
+pub half-above : focal_of (Pixels (fin false 8388609 (negsuc 8))) ≡ Ok (pos 4194304)
 unfolding focal_of lens_ok focal_number first_applying in_range whole_of lt
 half-above = refl
 
-pub before-limit : focal_of (Pixels (fin false 4503600701112319 (negsuc 37))) ≡ Whole (pos 4194304)
+pub before-limit : focal_of (Pixels (fin false 4503600701112319 (negsuc 37))) ≡ Ok (pos 4194304)
 unfolding focal_of lens_ok focal_number first_applying in_range whole_of lt
 before-limit = refl
 
@@ -47,7 +47,7 @@ pub smallest : focal_of (Pixels (fin false 1 (negsuc 1073))) ≡ out_of_range
 unfolding focal_of lens_ok first_applying in_range lt
 smallest = refl
 
-pub smallest-both : focal_of (Millimetres (fin false 1 (negsuc 1073)) (fin false 1 (negsuc 1073))) ≡ Whole (pos 256000)
+pub smallest-both : focal_of (Millimetres (fin false 1 (negsuc 1073)) (fin false 1 (negsuc 1073))) ≡ Ok (pos 256000)
 unfolding focal_of lens_ok focal_number first_applying in_range whole_of lt mul div of_int round
 smallest-both = refl
 

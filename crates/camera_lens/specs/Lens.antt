@@ -8,8 +8,9 @@ use Rattle.refusal.specs.Table.{Row, row, first_applying, answered}
 use Rattle.refusal.specs.Answer.{Answer, refused_with, accepted_with}
 use Rattle.camera_lens.specs.declared.Lens.{Lens}
 use Rattle.camera_lens.specs.declared.Lens.TheVariants.{Millimetres, Pixels}
-use Rattle.camera_lens.specs.declared.Focal.{Focal}
-use Rattle.camera_lens.specs.declared.Focal.TheVariants.{Refused, Whole}
+use Rattle.std.specs.Prelude.{Result, Ok, Err}
+use Rattle.refusal.specs.declared.Refusal.{Refusal}
+use Rattle.std.specs.Prelude.{ℤ}
 
 -- q: the focal length in pixels
 abbrev pub pixels_of : Lens → Float
@@ -48,17 +49,17 @@ focal_number l = whole_of (pixels_of l)
 abbrev pub refusals_of : Lens → List Row
 refusals_of l = row (not (lens_ok l)) lens ∷ []
 
-unfoldable pub focal_of : Lens → Focal
-focal_of l = answered Refused (Whole (pos (focal_number l))) (first_applying (refusals_of l))
+unfoldable pub focal_of : Lens → Result ℤ Refusal
+focal_of l = answered Err (Ok (pos (focal_number l))) (first_applying (refusals_of l))
 
-abbrev pub out_of_range : Focal
-out_of_range = Refused (record { number = lens; place = 0 })
+abbrev pub out_of_range : Result ℤ Refusal
+out_of_range = Err (record { number = lens; place = 0 })
 
 -- ---- in document 02's own terms
 
-abbrev pub focal_answer : Focal → Answer
-focal_answer (Refused r) = refused_with r.number r.place
-focal_answer (Whole f) = accepted_with (f ∷ [])
+abbrev pub focal_answer : Result ℤ Refusal → Answer
+focal_answer (Err r) = refused_with r.number r.place
+focal_answer (Ok f) = accepted_with (f ∷ [])
 
 -- the answer that a lens must have
 abbrev pub answer_for : Lens → Answer

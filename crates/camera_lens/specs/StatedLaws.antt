@@ -1,20 +1,14 @@
 -- The settings file's F comes back: F over 256 is a float, and its focal length is F. A kind that is none is refused. Assumes nothing.
-use borrow.Author.Tests.{eq-eqb, ne_eqb, le-leb, lt-leb, lt-ltb, le-ltb}
-use Rattle.std.specs.Prelude.{◌≡◌, ℕ, ◌*◌, ◌/◌, ◌^◌, ◌<◌, ◌≤◌, Bool, true, false, ◌&&◌, ◌⊎◌, pos, ◌≢◌, nat_le, nat_lt, Float}
-use Rattle.std.proofs.Math.Bool.{and-false}
-use Rattle.std.proofs.Common.{inl, inr, sym, ◌∙◌, subst, le_of_lt, lt_of_lt_of_le, lt_of_le_of_lt, mul_assoc, mul_comm, mul-lt-mul_of_pos_right, arith, lit<, lit≤}
-use Rattle.std.proofs.Math.Path.{ap}
-use Rattle.std.proofs.Math.Nat.{mul-div_cancel}
+use borrow.Author.Tests.{eq-eqb, ne_eqb}
+use Rattle.std.specs.Prelude.{◌≡◌, ℕ, ◌^◌, ◌<◌, false, pos, ◌≢◌, Float}
+use Rattle.std.proofs.Common.{sym, subst, le_of_lt, lt_of_lt_of_le, mul_assoc, mul-lt-mul_of_pos_right, arith, lit<, lit≤}
 use Rattle.std.specs.Float.{fin, binary64}
 use Rattle.std.specs.Float.Ieee.{of_int, round, div}
 use Rattle.std.specs.Float.Ieee.Exact.{HasValue, round_exact}
 use Rattle.floats.proofs.Whole.{whole-quotient}
 use Rattle.camera_lens.specs.declared.Lens.TheVariants.{Millimetres, Pixels}
-use Rattle.camera_lens.specs.declared.Focal.TheVariants.{Whole}
-use Rattle.camera_lens.specs.Lens.{lens_ok, focal_number, focal_of, out_of_range}
-use Rattle.camera_lens.specs.Stated.{settings_lens, none, stated_lens}
-use Rattle.camera_lens.specs.Range.{range-of, whole-of}
-use Rattle.camera_lens.specs.Laws.{lens-in, lens-out}
+use Rattle.camera_lens.specs.Lens.{focal_of, out_of_range}
+use Rattle.camera_lens.specs.Stated.{none, stated_lens}
 use Rattle.camera_lens.specs.RefusedLaws.{zeros, pixels-not-above}
 
 -- ---- the settings file

@@ -17,32 +17,22 @@ pub enum Lens {
     Pixels(f64),
 }
 
-// The focal length in 1/256 pixel, a whole number.
-#[derive(Clone, Copy)]
-pub enum Focal {
-    Refused(Refusal),
-    Whole(i64),
-}
-
 // Whether every number that is stated is above zero and the focal length that they make is in range.
 pub fn lens_ok(lens: Lens) -> bool
     ensures { result ≡ lens_ok lens }
 {
-    if plate::all_above(lens) {
-        return range::in_range(plate::pixels_of(lens));
-    }
-    false
+    plate::all_above(lens) && range::in_range(plate::pixels_of(lens))
 }
 
 // The focal length of a lens.
-pub fn focal_of(lens: Lens) -> Focal
+pub fn focal_of(lens: Lens) -> Result<i64, Refusal>
     ensures value { result ≡ focal_of lens }
     ensures result_value { focal_answer result ≡ answer_for lens }
 {
     if lens_ok(lens) {
-        return Focal::Whole(range::whole(plate::pixels_of(lens)));
+        return Ok(range::whole(plate::pixels_of(lens)));
     }
-    Focal::Refused(Refusal {
+    Err(Refusal {
         number: refusal::LENS,
         place: 0,
     })
@@ -57,6 +47,7 @@ pub fn of_settings(focal: u32) -> Lens
 
 // The lens that a caller states by a kind, 0 for millimetres or 1 for pixels, and two numbers, of which pixels need the first alone. Any other kind gives a
 // lens that is refused.
+// Stays: a kind by its number, since C hands it over.
 pub fn stated(kind: u32, first: f64, second: f64) -> Lens
     ensures { result ≡ stated_lens kind first second }
 {

@@ -9,12 +9,7 @@ pub(crate) fn all_above(lens: Lens) -> bool
     ensures { result ≡ all_above lens }
 {
     match lens {
-        Lens::Millimetres(length, pitch) => {
-            if length > 0.0 {
-                return pitch > 0.0;
-            }
-            false
-        }
+        Lens::Millimetres(length, pitch) => length > 0.0 && pitch > 0.0,
         Lens::Pixels(q) => q > 0.0,
     }
 }

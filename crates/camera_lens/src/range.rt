@@ -7,10 +7,7 @@ pub(crate) fn in_range(q: f64) -> bool
     ensures { result ≡ in_range q }
 {
     let is_above = q >= 64.0;
-    if is_above {
-        return q < 16384.00390625;
-    }
-    false
+    is_above && q < 16384.00390625
 }
 
 // The whole part of 256 q. In range 256 q is a float, so that nothing but its fraction is lost.

@@ -3,11 +3,12 @@ use Rattle.std.specs.Prelude.{Bool, cond, not, ◌&&◌, List, [], ◌∷◌, �
 use Rattle.refusal.specs.Numbers.{catalogue, record_rule}
 use Rattle.refusal.specs.Table.{Row, row, row_at, first_applying}
 use Rattle.refusal.specs.Answer.{Answer, refused_with, accepted_with}
-use Rattle.refusal.specs.declared.Counted.{Counted}
 use Rattle.refusal.specs.Counted.{counted_of}
 use Rattle.catalogue.specs.Format.{record_size, most_records, records_in}
 use Rattle.catalogue.specs.Rule.{record_ok}
 use Rattle.lists.specs.First.{first}
+use Rattle.std.specs.Prelude.{Result}
+use Rattle.refusal.specs.declared.Refusal.{Refusal}
 
 -- a multiple of a record's size, and 1 to 512 records
 unfoldable pub length_ok : ℕ → Bool
@@ -24,7 +25,7 @@ unfoldable pub refusals_of : List ℕ → List Row
 refusals_of bytes = row (not (length_ok (length bytes))) catalogue ∷ row_at (record_broken bytes) record_rule (broken_of bytes) ∷ []
 
 -- the refusal, or how many records there are
-unfoldable pub checked_of : List ℕ → Counted
+unfoldable pub checked_of : List ℕ → Result ℕ Refusal
 checked_of bytes = counted_of (records_in bytes) (first_applying (refusals_of bytes))
 
 -- ---- in document 01's own terms

@@ -6,13 +6,10 @@ use Rattle.std.proofs.Common.{sym, ap, subst, ◌∙◌, lt_trans, not-suc-le-ze
 use Rattle.std.proofs.Math.Decide.{dec_lt}
 use Rattle.std.proofs.lemmas.Bool.{not-true, not-false}
 use Rattle.lists.specs.Contradiction.{contradiction}
-use Rattle.refusal.specs.declared.Outcome.{Outcome}
 use Rattle.refusal.specs.declared.Refusal.{Refusal}
-use Rattle.refusal.specs.declared.Outcome.TheVariants.{Accepted}
 use Rattle.refusal.specs.Numbers.{catalogue, record_rule}
 use Rattle.refusal.specs.Table.{refusal_of, first_applying}
 use Rattle.refusal.specs.CountedLaws.{count-accepted, count-refused}
-use Rattle.refusal.specs.declared.Counted.TheVariants.{Refused, Count}
 use Rattle.catalogue.specs.Format.{records_in, identity_of}
 use Rattle.catalogue.specs.Rule.{record_ok}
 use Rattle.lists.specs.First.{First}
@@ -21,6 +18,7 @@ use Rattle.catalogue.specs.Check.{length_ok, broken_of, refusals_of, checked_of}
 use Rattle.catalogue.specs.CheckSteps.{checked, wrong-length, one-broken, none-broken}
 use Rattle.catalogue.specs.Valid.{LengthRule, RecordRule, Valid, FirstBroken}
 use Rattle.catalogue.specs.RuleLaws.{ok-length, length-ok, ok-record, record-ok}
+use Rattle.std.specs.Prelude.{Result, Ok, Err}
 
 -- ---- the first broken record
 
@@ -96,7 +94,7 @@ module _ (bytes : List ℕ) where
 data Way (bytes : List ℕ) : Type 0 where
   length-wrong : (LengthRule bytes → ⊥) → first_applying (refusals_of bytes) ≡ refusal_of catalogue 0 → Way bytes
   record-wrong : LengthRule bytes → FirstBroken bytes (broken_of bytes) → first_applying (refusals_of bytes) ≡ refusal_of record_rule (broken_of bytes) → Way bytes
-  all_right : Valid bytes → first_applying (refusals_of bytes) ≡ Accepted → Way bytes
+  all_right : Valid bytes → first_applying (refusals_of bytes) ≡ Ok tt → Way bytes
 
 way : (bytes : List ℕ) → Way bytes
 way bytes = go (length_ok (length bytes)) refl (dec_lt (broken_of bytes) (records_in bytes))
@@ -109,15 +107,15 @@ way bytes = go (length_ok (length bytes)) refl (dec_lt (broken_of bytes) (record
         all_right (kept-valid bytes (ok-length bytes e) k) (none-broken bytes e k)
 
 -- two outcomes that differ are not both given
-same : {o : Outcome} (n m p q : ℕ) → o ≡ refusal_of n p → o ≡ refusal_of m q → (n ≡ m) × (p ≡ q)
+same : {o : Result Unit Refusal} (n m p q : ℕ) → o ≡ refusal_of n p → o ≡ refusal_of m q → (n ≡ m) × (p ≡ q)
 same n m p q e f =
     let d : ◌≡◌ {A = Refusal} (record { number = n; place = p }) (record { number = m; place = q }) = cc in
     (ap (λ (r : Refusal). r.number) d, ap (λ (r : Refusal). r.place) d)
 
-apart : {A : Type 0} {o : Outcome} (n m p q : ℕ) → o ≡ refusal_of n p → o ≡ refusal_of m q → (n ≡ m → ⊥) → A
+apart : {A : Type 0} {o : Result Unit Refusal} (n m p q : ℕ) → o ≡ refusal_of n p → o ≡ refusal_of m q → (n ≡ m → ⊥) → A
 apart n m p q e f d = absurd (d (same n m p q e f).0)
 
-never : {A : Type 0} {o : Outcome} (n p : ℕ) → o ≡ refusal_of n p → o ≡ Accepted → A
+never : {A : Type 0} {o : Result Unit Refusal} (n p : ℕ) → o ≡ refusal_of n p → o ≡ Ok tt → A
 never n p e f = contradiction (cc)
 
 module _ (bytes : List ℕ) where
@@ -153,10 +151,10 @@ module _ (bytes : List ℕ) where
       go (all_right v e) = never record_rule p h e
 
   -- neither
-  pub valid-accepted : Valid bytes → first_applying (refusals_of bytes) ≡ Accepted
+  pub valid-accepted : Valid bytes → first_applying (refusals_of bytes) ≡ Ok tt
   valid-accepted v = none-broken bytes (length-ok bytes v.size) (valid-kept bytes v)
 
-  pub accepted-valid : first_applying (refusals_of bytes) ≡ Accepted → Valid bytes
+  pub accepted-valid : first_applying (refusals_of bytes) ≡ Ok tt → Valid bytes
   accepted-valid h = go (way bytes)
     where
       go : Way bytes → Valid bytes
@@ -166,13 +164,13 @@ module _ (bytes : List ℕ) where
 
   -- ---- the same of the check's own answer
 
-  pub valid-checked : Valid bytes → checked_of bytes ≡ Count (records_in bytes)
+  pub valid-checked : Valid bytes → checked_of bytes ≡ Ok (records_in bytes)
   valid-checked v = checked bytes (valid-accepted v)
 
-  pub checked-valid : (n : ℕ) → checked_of bytes ≡ Count n → Valid bytes × (n ≡ records_in bytes)
+  pub checked-valid : (n : ℕ) → checked_of bytes ≡ Ok n → Valid bytes × (n ≡ records_in bytes)
   checked-valid n h =
       let a = count-accepted (records_in bytes) n (first_applying (refusals_of bytes)) (sym (checked bytes refl) ∙ h) in
       (accepted-valid a.0, a.1)
 
-  pub checked_refused : (r : Refusal) → checked_of bytes ≡ Refused r → first_applying (refusals_of bytes) ≡ Outcome.Refused r
+  pub checked_refused : (r : Refusal) → checked_of bytes ≡ Err r → first_applying (refusals_of bytes) ≡ Err r
   checked_refused r h = count-refused (records_in bytes) (first_applying (refusals_of bytes)) r (sym (checked bytes refl) ∙ h)

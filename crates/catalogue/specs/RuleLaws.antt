@@ -10,21 +10,7 @@ use Rattle.std.specs.Int.Signed.{le_z}
 use Rattle.lists.specs.TestsLaws.{both_true}
 use Rattle.numbers.specs.Within.{Within}
 use Rattle.catalogue.specs.Format.{record_size, most_records, records_in, identity_of, component_of, magnitude_of}
-use Rattle.catalogue.specs.Rule.{
-  largest,
-  square_sum,
-  slack,
-  in_range,
-  squares,
-  norm_ok,
-  direction_ok,
-  brightest,
-  faintest,
-  magnitude_ok,
-  star_ok,
-  identity_rises,
-  record_ok,
-}
+use Rattle.catalogue.specs.Rule.{largest, square_sum, slack, in_range, squares, norm_ok, direction_ok, brightest, faintest, magnitude_ok, star_ok, identity_rises, record_ok}
 use Rattle.catalogue.specs.Check.{length_ok}
 use Rattle.catalogue.specs.Valid.{LengthRule, StarRule, RecordRule}
 

@@ -10,7 +10,8 @@ ghost use Rattle.catalogue.specs.Format.{records_in};
 ghost use Rattle.catalogue.specs.Check.{length_ok, checked_of, answer_for};
 ghost use Rattle.catalogue.specs.Stars.{stars_in, stars_of, padded, identity_for, magnitude_for};
 
-use refusal::{Counted, Refusal};
+use format::Record;
+use refusal::Refusal;
 
 // How many bytes a record has.
 pub const RECORD_SIZE: usize = 20;
@@ -26,46 +27,38 @@ pub fn records(bytes: &[u8]) -> usize
 }
 
 // Whether a catalogue may have this length.
+#[tactic(auto, unfolding(crate::specs::Check::length_ok))]
 fn length_ok(len: usize) -> bool
     ensures { result ≡ length_ok len }
 {
-    if len % RECORD_SIZE != 0 {
-        return false;
-    }
-    if len / RECORD_SIZE < 1 {
-        return false;
-    }
-    len / RECORD_SIZE <= MOST_RECORDS
+    len % RECORD_SIZE == 0 && 1 <= len / RECORD_SIZE && len / RECORD_SIZE <= MOST_RECORDS
 }
 
 // How many records a catalogue has, or why it is refused.
-pub fn check(bytes: &[u8]) -> Counted
+pub fn check(bytes: &[u8]) -> Result<usize, Refusal>
     ensures value { result ≡ checked_of bytes.now }
     ensures result_value { count_answer result ≡ answer_for bytes.now }
 {
     if !length_ok(bytes.len()) {
-        return Counted::Refused(Refusal {
+        return Err(Refusal {
             number: refusal::CATALOGUE,
             place: 0,
         });
     }
-    let n = records(bytes);
-    let broken = rule::first_broken(bytes);
-    if broken < n {
-        return Counted::Refused(Refusal {
+    match rule::first_broken(bytes) {
+        Some(broken) => Err(Refusal {
             number: refusal::RECORD,
             place: broken,
-        });
+        }),
+        None => Ok(records(bytes)),
     }
-    Counted::Count(n)
 }
 
 // How many records are decoded.
 fn stars_in(bytes: &[u8]) -> usize
     ensures { result ≡ stars_in bytes.now }
 {
-    let n = records(bytes);
-    if n < MOST_RECORDS { n } else { MOST_RECORDS }
+    records(bytes).min(MOST_RECORDS)
 }
 
 // The stars of a catalogue as numbers, x, y and z of each in turn, with zeros behind the last.
@@ -73,31 +66,35 @@ pub fn stars(bytes: &[u8]) -> [i32; 1536]
     ensures { result ≡ padded (stars_of bytes.now) }
 {
     let count = 3 * stars_in(bytes);
-    let mut numbers = [0i32; 1536];
-    let mut k = 0;
-    while k < count {
-        numbers[k] = format::component(bytes, k / 3, k % 3);
-        k += 1;
+    // Stays: the whole array by value and its count apart, since memory is fixed and `padded` promises the zeros.
+    let mut numbers = [0; 1536];
+    for k in 0..count {
+        numbers[k] = Record { bytes, i: k / 3 }.component(k % 3);
     }
     numbers
 }
 
+// Stays: 0 and no Option, since `identity_for` and `magnitude_for` promise it.
 // The identity of record i, and 0 where there is no such record.
+#[tactic(auto, unfolding(crate::specs::Stars::identity_for))]
 pub fn identity(bytes: &[u8], i: usize) -> u32
     ensures { result ≡ identity_for bytes.now i }
 {
     if i < records(bytes) {
-        return format::identity(bytes, i);
+        Record { bytes, i }.identity()
+    } else {
+        0
     }
-    0
 }
 
 // The magnitude of record i in thousandths, and 0 where there is no such record.
+#[tactic(auto, unfolding(crate::specs::Stars::magnitude_for))]
 pub fn magnitude(bytes: &[u8], i: usize) -> i32
     ensures { result ≡ magnitude_for bytes.now i }
 {
     if i < records(bytes) {
-        return format::magnitude(bytes, i);
+        Record { bytes, i }.magnitude()
+    } else {
+        0
     }
-    0
 }

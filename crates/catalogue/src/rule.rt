@@ -1,10 +1,10 @@
 // The rule of a record: its components, its norm, its magnitude, and its identity above that of the record before.
-ghost use Rattle.std.specs.Prelude.{◌≡◌, ◌+◌, ◌*◌, ◌<◌, ◌≤◌, length};
-ghost use Rattle.catalogue.specs.Format.{record_size};
-ghost use Rattle.catalogue.specs.Rule.{direction_ok, magnitude_ok, star_ok, record_ok};
+ghost use Rattle.std.specs.Prelude.{◌≡◌, ◌<◌, MatchOption};
+ghost use Rattle.catalogue.specs.Format.{records_in};
+ghost use Rattle.catalogue.specs.Rule.{direction_ok, magnitude_ok, star_ok, identity_rises, record_ok};
 ghost use Rattle.catalogue.specs.Check.{broken_of};
 
-use crate::{RECORD_SIZE, format};
+use crate::format::Record;
 
 // How far from 0 a component may lie.
 const LARGEST: u64 = 1000000000;
@@ -42,51 +42,51 @@ fn direction_ok(x: i64, y: i64, z: i64) -> bool
 fn magnitude_ok(m: i32) -> bool
     ensures { result ≡ magnitude_ok m }
 {
-    if BRIGHTEST <= m {
-        return m <= FAINTEST;
-    }
-    false
+    BRIGHTEST <= m && m <= FAINTEST
 }
 
-// Whether record i keeps what it has to keep by itself.
-fn star_ok(bytes: &[u8], i: usize) -> bool
-    requires { record_size * i + record_size ≤ length bytes.now }
-    ensures { result ≡ star_ok bytes.now i }
+// Whether a record keeps what it has to keep by itself.
+fn star_ok(star: Record) -> bool
+    ensures { result ≡ star_ok star.entry.bytes.now star.entry.i }
 {
-    let x = format::component(bytes, i, 0) as i64;
-    let y = format::component(bytes, i, 1) as i64;
-    let z = format::component(bytes, i, 2) as i64;
-    if !direction_ok(x, y, z) {
-        return false;
-    }
-    magnitude_ok(format::magnitude(bytes, i))
+    let x = i64::from(star.component(0));
+    let y = i64::from(star.component(1));
+    let z = i64::from(star.component(2));
+    direction_ok(x, y, z) && magnitude_ok(star.magnitude())
 }
 
-// Whether record i keeps its rule.
-fn record_ok(bytes: &[u8], i: usize) -> bool
-    requires { record_size * i + record_size ≤ length bytes.now }
-    ensures { result ≡ record_ok bytes.now i }
+// Whether a record's identity is above that of the record before it, if there is one.
+#[tactic(auto, using(crate::specs::RuleSteps::rises_next))]
+fn identity_rises(star: Record) -> bool
+    ensures { result ≡ identity_rises star.entry.bytes.now star.entry.i }
 {
-    if !star_ok(bytes, i) {
-        return false;
-    }
-    if i == 0 {
+    if star.i == 0 {
         return true;
     }
-    format::identity(bytes, i - 1) < format::identity(bytes, i)
+    let before = Record {
+        bytes: star.bytes,
+        i: star.i - 1,
+    };
+    before.identity() < star.identity()
 }
 
-// The first record that breaks its rule, or the number of records where each keeps it.
-pub(crate) fn first_broken(bytes: &[u8]) -> usize
-    ensures { result ≡ broken_of bytes.now }
+// Whether a record keeps its rule.
+#[tactic(auto, unfolding(crate::specs::Rule::record_ok))]
+fn record_ok(star: Record) -> bool
+    ensures { result ≡ record_ok star.entry.bytes.now star.entry.i }
 {
-    let n = bytes.len() / RECORD_SIZE;
-    let mut i = 0;
-    while i < n {
-        if !record_ok(bytes, i) {
-            return i;
+    star_ok(star) && identity_rises(star)
+}
+
+// The first record that breaks its rule, if one does.
+pub(crate) fn first_broken(bytes: &[u8]) -> Option<usize>
+    ensures { MatchOption result (broken_of bytes.now ≡ records_in bytes.now)
+        (λ p. (p ≡ broken_of bytes.now) × (p < records_in bytes.now)) }
+{
+    for i in 0..crate::records(bytes) {
+        if !record_ok(Record { bytes, i }) {
+            return Some(i);
         }
-        i += 1;
     }
-    n
+    None
 }

@@ -1,7 +1,7 @@
 -- What is said of an identity, by who has it. Assumes nothing.
 use Rattle.std.specs.Prelude.{Bool, true, false, cond, ◌≡◌, refl, List, ℕ}
 use Rattle.std.proofs.Common.{ap, ◌∙◌}
-use Rattle.catalogue_compare.specs.Changes.{place_of, has, differ, both_kind, kind_of}
+use Rattle.catalogue_compare.specs.Changes.{place_of, has, differ}
 use Rattle.catalogue_compare.specs.Kinds.{kind-first, kind-second, kind-none, kind-both, Way, only-first, only-second, differing, same, neither}
 
 pub way : (first second : List ℕ) (x : ℕ) → Way first second x

@@ -18,7 +18,7 @@ use Rattle.catalogue_compare.proofs.KindLaws.{way}
 use Rattle.lists.proofs.Below.{Passing, passing}
 use Rattle.catalogue_compare.specs.Encoded.{changes-length}
 use Rattle.catalogue_compare.specs.Read.{identity_at, kind_at, read-identity, read-kind}
-use Rattle.catalogue_compare.specs.Fields.{Apart, apart-field, field_apart}
+use Rattle.catalogue_compare.specs.Fields.{apart-field, field_apart}
 use Rattle.catalogue_compare.specs.Laws.{Has, Moved, Lists}
 
 module _ (bytes : List ℕ) (x : ℕ) where

@@ -6,3 +6,4 @@ pub mod Laws
 pub mod StepLaws
 pub mod WalkLaws
 pub mod Written
+pub mod Merge

@@ -1,17 +1,16 @@
 -- The walk over two catalogues: behind each step stands the list of all identities that are passed, and at the end all of it. Assumes nothing.
-use Rattle.std.specs.Prelude.{Bool, true, false, ◌≡◌, refl, List, [], ◌∷◌, ◌++◌, ℕ, suc, ◌+◌, ◌≤◌, ◌<◌, eqb, length}
+use Rattle.std.specs.Prelude.{◌≡◌, List, [], ◌∷◌, ◌++◌, ℕ, suc, ◌+◌, ◌≤◌, ◌<◌, eqb, length}
 use Rattle.std.proofs.Math.Bool.{not}
 use Rattle.std.proofs.Math.Path.{sym, ap}
-use Rattle.std.proofs.Common.{subst, ◌∙◌, arith, eq-eqb, ne_eqb, length-append}
-use Rattle.lists.specs.Order.{pick, ordered}
+use Rattle.std.proofs.Common.{subst, ◌∙◌, arith, length-append}
+use Rattle.lists.specs.Order.{pick}
 use Rattle.catalogue.specs.Format.{records_in}
-use Rattle.catalogue_compare.specs.declared.step.Step.{Step}
-use Rattle.catalogue_compare.specs.Changes.{kind_of, is_listed, listed_below, listed}
+use Rattle.catalogue_compare.specs.Changes.{kind_of, is_listed, listed}
 use Rattle.catalogue_compare.specs.Places.{Rises}
 use Rattle.catalogue_compare.specs.Kinds.{kind-none}
 use Rattle.lists.proofs.Below.{below_next, below-skip, below_more}
-use Rattle.catalogue_compare.specs.Step.{step_of}
-use Rattle.catalogue_compare.specs.Cut.{Cut, cut-start, next-behind, cut-none}
+use Rattle.catalogue_compare.specs.Step.{Step, step_of}
+use Rattle.catalogue_compare.specs.Cut.{next-behind, cut-none}
 use Rattle.catalogue_compare.specs.StepLaws.{Stepped}
 use Rattle.catalogue_compare.proofs.StepLaws.{stepped}
 use Rattle.catalogue_compare.specs.Walk.{told, told-most, Walked, so_far, Counted}

@@ -1,21 +1,18 @@
 -- The list's bytes at the front of a room, to which a step adds. Assumes nothing.
 use Rattle.std.specs.Prelude.{Bool, true, false, not, ◌≡◌, refl, ℕ, ◌+◌, ◌*◌, ◌≤◌, ◌<◌, eqb}
 use Rattle.std.proofs.Math.Path.{sym, ap}
-use Rattle.std.proofs.Common.{◌∙◌, arith, eq-eqb, ne_eqb, length-append}
-use mathlib.Core.List.{List, [], ◌∷◌, ◌++◌, append-nil}
+use Rattle.std.proofs.Common.{◌∙◌, arith, length-append}
+use mathlib.Core.List.{List, [], ◌∷◌, append-nil}
 use Rattle.std.proofs.Math.ListN.{length}
 use Rattle.std.proofs.lemmas.List.Edits.{sets}
 use Rattle.lists.specs.Order.{pick}
-use Rattle.words.specs.Bytes.{bytes_of}
-use Rattle.words.specs.BytesLaws.{bytes-join, put-join}
 use Rattle.words.specs.Front.{at_front, front-more}
 use Rattle.catalogue.specs.Format.{records_in}
-use Rattle.catalogue_compare.specs.declared.step.Step.{Step}
 use Rattle.catalogue_compare.specs.Changes.{kind_of, listed, record_of, encoded, changes_of}
 use Rattle.catalogue_compare.specs.Places.{Rises}
 use Rattle.catalogue_compare.specs.Encoded.{encoded-length, encoded-append}
-use Rattle.catalogue_compare.specs.Step.{step_of}
-use Rattle.catalogue_compare.specs.Walk.{told, Walked, so_far, walk_start, so-far-none}
+use Rattle.catalogue_compare.specs.Step.{Step, step_of}
+use Rattle.catalogue_compare.specs.Walk.{told, so_far}
 use Rattle.catalogue_compare.proofs.WalkLaws.{so-far-part, walk-next, walk-kind, so-far-next, so-far-all}
 use Rattle.catalogue_compare.specs.Written.{told_bytes, Written}
 

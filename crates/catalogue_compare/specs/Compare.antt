@@ -5,10 +5,11 @@ use Rattle.refusal.specs.Table.{Row, row, first_applying, answered}
 use Rattle.refusal.specs.Answer.{Answer, refused_with, accepted_with}
 use Rattle.catalogue.specs.Check.{length_ok, record_broken, broken_of}
 use Rattle.catalogue.specs.Check as catalogue
-use Rattle.refusal.specs.declared.Counted.{Counted}
 use Rattle.refusal.specs.Counted.{counted_of}
 use Rattle.catalogue_compare.specs.Changes.{listed, changes_of}
 use Rattle.words.specs.Front.{at_front}
+use Rattle.std.specs.Prelude.{Result}
+use Rattle.refusal.specs.declared.Refusal.{Refusal}
 
 -- a room of so many bytes is shorter than the list
 abbrev pub room_short : List ℕ → List ℕ → ℕ → Bool
@@ -23,7 +24,7 @@ unfoldable pub refusals_of : List ℕ → List ℕ → ℕ → List Row
 refusals_of first second size = catalogues_refused first second ++ (row (room_short first second size) number.changes_room ∷ [])
 
 -- the refusal, or how many records the list has
-unfoldable pub compared_of : List ℕ → List ℕ → ℕ → Counted
+unfoldable pub compared_of : List ℕ → List ℕ → ℕ → Result ℕ Refusal
 compared_of first second size = counted_of (length (listed first second)) (first_applying (refusals_of first second size))
 
 -- the list at the front and the other bytes as they were; a refusal changes no byte

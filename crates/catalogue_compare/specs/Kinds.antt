@@ -1,6 +1,5 @@
 -- What is said of an identity, by who has it. Assumes nothing.
-use Rattle.std.specs.Prelude.{Bool, true, false, cond, ◌≡◌, refl, List, ℕ}
-use Rattle.std.proofs.Common.{ap, ◌∙◌}
+use Rattle.std.specs.Prelude.{true, false, ◌≡◌, List, ℕ}
 use Rattle.catalogue_compare.specs.Changes.{place_of, has, differ, both_kind, kind_of}
 
 module _ (first second : List ℕ) (x : ℕ) where

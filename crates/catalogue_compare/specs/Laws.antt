@@ -1,23 +1,10 @@
 -- What the list of changes is, in plain terms, for any two valid catalogues: an identity is listed with 1 exactly if some record of the first has it
 -- and none of the second does, with 2 the other way round, and with 3 exactly if both have it and x, y, z or the magnitude differs; identities rise
 -- strictly, so that each stands once; and nothing else is listed. Assumes nothing.
-use Rattle.std.specs.Prelude.{Bool, true, false, cond, not, ◌⊎◌, ◌≡◌, List, ℕ, ◌+◌, ◌*◌, ◌≤◌, ◌<◌, length, get_or}
-use Rattle.std.proofs.Common.{inl, inr, sym, ap, ◌∙◌, arith}
-use Rattle.std.proofs.Math.Decide.{dec_lt}
-use borrow.Author.Tests.{eqb-true, eqb-false, ltb-true, ne_eqb, not-true}
-use Rattle.std.proofs.Math.Dec.{eqb}
-use Rattle.lists.specs.Contradiction.{contradiction}
-use Rattle.lists.proofs.First.{first-is}
+use Rattle.std.specs.Prelude.{◌≡◌, List, ℕ, ◌+◌, ◌*◌, ◌≤◌, ◌<◌, length}
 use Rattle.catalogue.specs.Format.{records_in, identity_of}
-use Rattle.catalogue.specs.Valid.{Valid}
-use Rattle.catalogue_compare.specs.Changes.{place_of, has, differ, kind_of, is_listed, listed, changes_of}
-use Rattle.catalogue_compare.specs.DifferLaws.{differ-some, differ-any}
-use Rattle.catalogue_compare.specs.Places.{Rises, valid-rises, place_is, place_none, place-has}
-use Rattle.catalogue_compare.specs.Kinds.{kind-first, kind-second, kind-both, Way, only-first, only-second, differing, same, neither}
-use Rattle.lists.proofs.Below.{Passing, passing}
-use Rattle.catalogue_compare.specs.Encoded.{changes-length}
-use Rattle.catalogue_compare.specs.Read.{identity_at, kind_at, read-identity, read-kind}
-use Rattle.catalogue_compare.specs.Fields.{Apart, apart-field, field_apart}
+use Rattle.catalogue_compare.specs.Read.{identity_at, kind_at}
+use Rattle.catalogue_compare.specs.Fields.{Apart}
 
 -- ---- the words of these laws
 

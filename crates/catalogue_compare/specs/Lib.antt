@@ -1,5 +1,6 @@
 -- The definitions that the contracts of `catalogue_compare` cite, and their laws.
 pub mod Step
+pub mod Taken
 pub mod Cut
 pub mod StepLaws
 pub mod Walk

@@ -1,8 +1,14 @@
 -- One step of the walk over two catalogues. Assumes nothing.
 use Rattle.std.specs.Prelude.{cond, List, ℕ, ◌+◌, ltb}
 use Rattle.catalogue.specs.Format.{records_in, identity_of}
-use Rattle.catalogue_compare.specs.declared.step.Step.{Step}
 use Rattle.catalogue_compare.specs.Changes.{both_kind}
+
+-- an identity, what the list says of it, and the next record of each catalogue; kind 0 says that it is not listed
+pub record Step : Type 0 where
+  pub identity : ℕ
+  pub kind : ℕ
+  pub first : ℕ
+  pub second : ℕ
 
 -- the identity of record i; behind the last record a number that is above every identity
 unfoldable pub next_of : List ℕ → ℕ → ℕ

@@ -1,21 +1,17 @@
 -- The list's bytes at the front of a room, to which a step adds. Assumes nothing.
-use Rattle.std.specs.Prelude.{Bool, true, false, not, ◌≡◌, refl, ℕ, ◌+◌, ◌*◌, ◌≤◌, ◌<◌, eqb}
+use Rattle.std.specs.Prelude.{not, ◌≡◌, ℕ, ◌+◌, ◌<◌, eqb}
 use Rattle.std.proofs.Math.Path.{sym, ap}
-use Rattle.std.proofs.Common.{◌∙◌, arith, eq-eqb, ne_eqb, length-append}
-use mathlib.Core.List.{List, [], ◌∷◌, ◌++◌, append-nil}
+use Rattle.std.proofs.Common.{◌∙◌, eq-eqb, ne_eqb}
+use mathlib.Core.List.{List, []}
 use Rattle.std.proofs.Math.ListN.{length}
 use Rattle.std.proofs.lemmas.List.Edits.{sets}
 use Rattle.lists.specs.Order.{pick}
 use Rattle.words.specs.Bytes.{bytes_of}
 use Rattle.words.specs.BytesLaws.{bytes-join, put-join}
-use Rattle.words.specs.Front.{at_front, front-more}
-use Rattle.catalogue.specs.Format.{records_in}
-use Rattle.catalogue_compare.specs.declared.step.Step.{Step}
-use Rattle.catalogue_compare.specs.Changes.{kind_of, listed, record_of, encoded, changes_of}
-use Rattle.catalogue_compare.specs.Places.{Rises}
-use Rattle.catalogue_compare.specs.Encoded.{encoded-length, encoded-append}
-use Rattle.catalogue_compare.specs.Step.{step_of}
-use Rattle.catalogue_compare.specs.Walk.{told, Walked, so_far, walk_start, so-far-none}
+use Rattle.words.specs.Front.{at_front}
+use Rattle.catalogue_compare.specs.Changes.{kind_of, record_of, encoded}
+use Rattle.catalogue_compare.specs.Step.{Step}
+use Rattle.catalogue_compare.specs.Walk.{Walked, so_far, walk_start, so-far-none}
 
 -- a record written in two parts
 pub parts-written : (room : List ℕ) (at identity kind : ℕ) → kind < 4294967296

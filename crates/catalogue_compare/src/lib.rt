@@ -10,43 +10,34 @@ ghost use Rattle.refusal.specs.Counted.{count_answer};
 ghost use Rattle.refusal.specs.Table.{first_applying};
 ghost use Rattle.catalogue_compare.specs.Compare.{catalogues_refused, compared_of, room_after, answer_for};
 
-use refusal::{Counted, Outcome, Refusal};
+use refusal::Refusal;
 
 // The bytes of a record of the list.
 pub const CHANGE_SIZE: usize = 8;
 
 // The refusal of the first catalogue; only where it is valid that of the second.
-fn judge(first: &[u8], second: &[u8]) -> Outcome
+fn judge(first: &[u8], second: &[u8]) -> Result<(), Refusal>
     ensures { result ≡ first_applying (catalogues_refused first.now second.now) }
 {
-    let checked = catalogue::check(first);
-    if let Counted::Refused(r) = checked {
-        return Outcome::Refused(r);
-    }
-    let other = catalogue::check(second);
-    if let Counted::Refused(r) = other {
-        return Outcome::Refused(r);
-    }
-    Outcome::Accepted
+    catalogue::check(first)?;
+    catalogue::check(second)?;
+    Ok(())
 }
 
 // The list of what changed from the first catalogue to the second, written at the front of the room. It is counted before anything is written.
-pub fn compare(first: &[u8], second: &[u8], room: &mut [u8]) -> Counted
+pub fn compare(first: &[u8], second: &[u8], room: &mut [u8]) -> Result<usize, Refusal>
     ensures value { result ≡ compared_of first.now second.now (length room.old) }
     ensures room_after { room.new ≡ room_after first.now second.now room.old }
     ensures result_value { count_answer result ≡ answer_for first.now second.now (length room.old) }
 {
-    let outcome = judge(first, second);
-    if let Outcome::Refused(r) = outcome {
-        return Counted::Refused(r);
-    }
+    judge(first, second)?;
     let records = walk::count(first, second);
     if room.len() < CHANGE_SIZE * records {
-        return Counted::Refused(Refusal {
+        return Err(Refusal {
             number: refusal::CHANGES_ROOM,
             place: 0,
         });
     }
     walk::write(first, second, room);
-    Counted::Count(records)
+    Ok(records)
 }

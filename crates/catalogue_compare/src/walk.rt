@@ -3,35 +3,25 @@
 ghost use Rattle.std.specs.Prelude.{◌≡◌, ◌+◌, ◌*◌, ◌≤◌, length};
 ghost use Rattle.std.proofs.lemmas.List.Edits.{sets};
 ghost use Rattle.words.specs.Front.{at_front};
-ghost use Rattle.catalogue.specs.Format.{records_in};
 ghost use Rattle.catalogue.specs.Valid.{Valid};
 ghost use Rattle.catalogue_compare.specs.Changes.{listed, changes_of};
+ghost use Rattle.catalogue_compare.specs.Taken.{step_from};
 ghost use Rattle.catalogue_compare.specs.Walk.{told};
 ghost use Rattle.catalogue_compare.specs.Written.{told_bytes};
 
 use crate::step::Step;
 use crate::{CHANGE_SIZE, step};
 
-// How many records both catalogues have.
-fn most_steps(first: &[u8], second: &[u8]) -> usize
-    ensures { result ≡ records_in first.now + records_in second.now }
-{
-    catalogue::records(first) + catalogue::records(second)
-}
-
 // How many records the list has.
 pub(crate) fn count(first: &[u8], second: &[u8]) -> usize
     requires { Valid first.now × Valid second.now }
     ensures { (result ≡ length (listed first.now second.now)) × (result ≤ 1024) }
 {
-    let most = most_steps(first, second);
-    let mut found: usize = 0;
-    let mut i: usize = 0;
-    let mut j: usize = 0;
-    while i + j < most {
-        let s = step::advance(first, second, i, j);
-        let is_change = s.kind != 0;
-        if is_change {
+    let mut found = 0;
+    let mut i = 0;
+    let mut j = 0;
+    while let Some(s) = step::advance(first, second, i, j) {
+        if s.change.is_some() {
             found += 1;
         }
         i = s.first;
@@ -42,16 +32,16 @@ pub(crate) fn count(first: &[u8], second: &[u8]) -> usize
 
 // Writes the record of a step, if it has one, behind the first `at` records. How many there are then.
 fn put(room: &mut [u8], at: usize, s: Step) -> usize
-    requires { 8 * (at + length (told s)) ≤ length room.old }
-    ensures value { result ≡ at + length (told s) }
-    ensures room_after { room.new ≡ sets room.old (8 * at) (told_bytes s) }
+    requires { 8 * (at + length (told (step_from s))) ≤ length room.old }
+    ensures value { result ≡ at + length (told (step_from s)) }
+    ensures room_after { room.new ≡ sets room.old (8 * at) (told_bytes (step_from s)) }
 {
-    if s.kind == 0 {
+    let Some(change) = s.change else {
         return at;
-    }
+    };
     let from = CHANGE_SIZE * at;
     words::put_u32(room, from, s.identity);
-    words::put_u32(room, from + 4, s.kind);
+    words::put_u32(room, from + 4, change as u32);
     at + 1
 }
 
@@ -61,12 +51,10 @@ pub(crate) fn write(first: &[u8], second: &[u8], room: &mut [u8])
     requires second_in_bounds { 8 * length (listed first.now second.now) ≤ length room.old }
     ensures { room.new ≡ at_front (changes_of first.now second.now) room.old }
 {
-    let most = most_steps(first, second);
-    let mut found: usize = 0;
-    let mut i: usize = 0;
-    let mut j: usize = 0;
-    while i + j < most {
-        let s = step::advance(first, second, i, j);
+    let mut found = 0;
+    let mut i = 0;
+    let mut j = 0;
+    while let Some(s) = step::advance(first, second, i, j) {
         found = put(room, found, s);
         i = s.first;
         j = s.second;

@@ -1,11 +1,10 @@
 -- What cutting a catalogue gives, one step at a time, as the code meets them. Assumes nothing.
-use Rattle.std.specs.Prelude.{◌≡◌, refl, ℕ, ◌*◌, ◌-◌, ◌≤◌, ℤ, length, take, drop}
+use Rattle.std.specs.Prelude.{◌≡◌, refl, ℕ, ◌*◌, ◌-◌, ℤ, length, take, drop}
 use Rattle.std.proofs.Math.Path.{sym, ap}
 use mathlib.Core.List.{List, [], ◌∷◌, ◌++◌}
 use Rattle.std.proofs.Common.{arith, eq-eqb, ne_eqb}
 use Rattle.std.proofs.Math.ListN.{replicate}
 use Rattle.std.proofs.Math.Seq.{take_at}
-use Rattle.refusal.specs.declared.Outcome.{Outcome}
 use Rattle.refusal.specs.declared.Refusal.{Refusal}
 use Rattle.refusal.specs.Numbers as number
 use Rattle.refusal.specs.Table.{first_applying}
@@ -20,11 +19,11 @@ use Rattle.catalogue.specs.CheckLaws.{valid-accepted}
 use Rattle.catalogue.specs.Format.{record_size, records_in}
 use Rattle.catalogue.specs.Valid.{Valid}
 use Rattle.catalogue_cut.specs.Flight.{is_kept, kept_in, records_at, flight_of, freed, cut_of}
-use Rattle.catalogue_cut.proofs.Front.{flight-length, flight-most}
-use Rattle.refusal.specs.declared.Counted.TheVariants.{Refused, Count}
+use Rattle.catalogue_cut.proofs.Front.{flight-length}
 use Rattle.catalogue_cut.specs.marks.Judge.{Settled}
 use Rattle.catalogue_cut.specs.Shifted.{marked}
 use Rattle.catalogue_cut.specs.Cut.{none_kept, refusals_of, shortened_of, buffer_after, shortened_from, buffer_from, answer_for}
+use Rattle.std.specs.Prelude.{Ok, Err}
 
 module _ (bytes : List ℕ) (limit closeness : ℤ) where
   -- ---- a catalogue that is valid
@@ -63,7 +62,7 @@ module _ (bytes : List ℕ) (limit closeness : ℤ) where
       ++ replicate (e j - sym n j) freed
 
   module _ (e : kept ≡ 0) where
-    pub none_from : shortened_from bytes limit closeness ≡ Refused (record { number = number.nothing_kept; place = 0 })
+    pub none_from : shortened_from bytes limit closeness ≡ Err (record { number = number.nothing_kept; place = 0 })
     unfolding shortened_from
     none_from = rw (eq-eqb kept 0 e)
 
@@ -72,7 +71,7 @@ module _ (bytes : List ℕ) (limit closeness : ℤ) where
     none-buffer = rw (eq-eqb kept 0 e)
 
   module _ (d : kept ≡ 0 → ⊥) where
-    pub some-from : shortened_from bytes limit closeness ≡ Count kept
+    pub some-from : shortened_from bytes limit closeness ≡ Ok kept
     unfolding shortened_from
     some-from = rw (ne_eqb kept 0 d)
 
@@ -88,10 +87,10 @@ module _ (bytes : List ℕ) (limit closeness : ℤ) where
   answers = count_by kept (refusals_of bytes limit closeness)
 
   -- the catalogue is refused
-  module _ (r : Refusal) (e : first_applying (catalogue.refusals_of bytes) ≡ Outcome.Refused r) where
-    pub catalogue-refused : shortened_of bytes limit closeness ≡ Refused r
+  module _ (r : Refusal) (e : first_applying (catalogue.refusals_of bytes) ≡ Err r) where
+    pub catalogue-refused : shortened_of bytes limit closeness ≡ Err r
     unfolding shortened_of refusals_of
-    catalogue-refused = last-unasked Refused (Count kept) (catalogue.refusals_of bytes) (none_kept bytes limit closeness) number.nothing_kept r e
+    catalogue-refused = last-unasked Err (Ok kept) (catalogue.refusals_of bytes) (none_kept bytes limit closeness) number.nothing_kept r e
 
     pub catalogue-kept : buffer_after bytes limit closeness ≡ bytes
     unfolding buffer_after refusals_of
@@ -102,7 +101,7 @@ module _ (bytes : List ℕ) (limit closeness : ℤ) where
   module _ (v : Valid bytes) where
     pub valid-shortened : shortened_of bytes limit closeness ≡ shortened_from bytes limit closeness
     unfolding shortened_of refusals_of shortened_from
-    valid-shortened = last-decides Refused (Count kept) (catalogue.refusals_of bytes) (none_kept bytes limit closeness) number.nothing_kept
+    valid-shortened = last-decides Err (Ok kept) (catalogue.refusals_of bytes) (none_kept bytes limit closeness) number.nothing_kept
         (valid-accepted bytes v)
 
     pub valid-buffer : buffer_after bytes limit closeness ≡ buffer_from bytes limit closeness

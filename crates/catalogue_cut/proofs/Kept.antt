@@ -1,15 +1,15 @@
 -- Which records are kept, in plain terms: exactly those within the limit that no other one within it is close to. Assumes nothing.
-use Rattle.std.specs.Prelude.{Bool, ◌&&◌, ◌≡◌, List, ℕ, ◌≤◌, ◌<◌, T, eqb, ℤ, ◌≤ℤ◌}
+use Rattle.std.specs.Prelude.{Bool, ◌&&◌, ◌≡◌, List, ℕ, ◌<◌, eqb, ℤ}
 use Rattle.std.proofs.Math.Bool.{true, false, not}
 use Rattle.std.proofs.Math.Path.{refl}
-use Rattle.std.proofs.Common.{sym, ap, subst, ◌∙◌, le_refl, lt_irrefl, arith}
-use borrow.Author.Tests.{ltb-true, ltb-false, lt-ltb, eqb-false, ne_eqb, not-true}
+use Rattle.std.proofs.Common.{sym, ap, ◌∙◌, arith}
+use borrow.Author.Tests.{ltb-true, ltb-false, eqb-false, ne_eqb, not-true}
 use Rattle.std.specs.Int.Signed.{le_z}
 use Rattle.lists.specs.Contradiction.{contradiction}
 use Rattle.lists.specs.First.{first as first_where}
 use Rattle.lists.proofs.First.{first-is}
 use Rattle.lists.specs.TestsLaws.{both_true}
-use Rattle.catalogue.specs.Format.{records_in, magnitude_of}
+use Rattle.catalogue.specs.Format.{records_in}
 use Rattle.catalogue_cut.specs.Flight.{is_bright, product_of, crowds, is_crowded, is_kept}
 use Rattle.catalogue_cut.specs.Kept.{Crowds, Stays, is_true, at_most, is-bright, bright-is}
 

@@ -1,6 +1,6 @@
 -- The flight catalogue in plain terms. A record is among the kept exactly where it stays; the kept ones have their bytes and their order; what stands at
 -- the front is a valid catalogue again. Assumes nothing.
-use Rattle.std.specs.Prelude.{◌≡◌, List, ℕ, ◌+◌, ◌*◌, ◌/◌, ◌≤◌, ◌<◌, ℤ, pos, ◌-ℤ◌, length, get_or, ◌≤ℤ◌}
+use Rattle.std.specs.Prelude.{◌≡◌, List, ℕ, ◌+◌, ◌*◌, ◌≤◌, ◌<◌, ℤ, pos, ◌-ℤ◌, length, get_or, ◌≤ℤ◌}
 use Rattle.std.proofs.Math.Path.{sym, ap}
 use Rattle.std.proofs.Common.{subst, ◌∙◌}
 use native.Mathlib.Omega.{arith}
@@ -12,8 +12,8 @@ use Rattle.words.specs.NumberLaws.{number_same}
 use Rattle.catalogue.specs.Format.{record_size, records_in, signed_of, identity_of, component_of, magnitude_of}
 use Rattle.catalogue.specs.Rule.{largest, square_sum, slack, squares, brightest, faintest}
 use Rattle.catalogue.specs.Valid.{StarRule, Valid}
-use Rattle.catalogue_cut.specs.Flight.{is_kept, product_of, kept_in, flight_of}
-use Rattle.catalogue_cut.specs.Kept.{Crowds, Stays}
+use Rattle.catalogue_cut.specs.Flight.{is_kept, product_of, flight_of}
+use Rattle.catalogue_cut.specs.Kept.{Stays}
 use Rattle.catalogue_cut.proofs.Kept.{kept-stays, stays-kept}
 use Rattle.catalogue_cut.specs.Pairs.{product-comm}
 use Rattle.catalogue_cut.specs.Front.{kept}

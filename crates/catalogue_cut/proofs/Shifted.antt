@@ -1,20 +1,20 @@
 -- Records moved to the front, and room that is filled: what stands where on the way. Assumes nothing.
-use Rattle.std.specs.Prelude.{Bool, ◌≡◌, ℕ, suc, ◌+◌, ◌*◌, ◌-◌, ◌/◌, ◌≤◌, ◌<◌, eqb, get_or, drop, set, replicate}
+use Rattle.std.specs.Prelude.{Bool, ◌≡◌, ℕ, suc, ◌+◌, ◌*◌, ◌-◌, ◌≤◌, ◌<◌, eqb, get_or, drop, set}
 use Rattle.std.proofs.Math.Bool.{true, false}
 use Rattle.std.proofs.Math.Path.{refl, sym, ap}
-use Rattle.std.proofs.Common.{◌∙◌, lt_of_lt_of_le, add-one, arith, length-append, length-drop, drop_of_length-le, take_all, get_or-append-add, get_or-drop}
-use mathlib.Core.List.{List, [], ◌∷◌, ◌++◌, append_assoc, append-nil}
+use Rattle.std.proofs.Common.{◌∙◌, lt_of_lt_of_le, add-one, arith, length-append, take_all, get_or-append-add, get_or-drop}
+use mathlib.Core.List.{List, [], ◌∷◌, ◌++◌, append-nil}
 use Rattle.std.proofs.Math.ListN.{length, take}
-use Rattle.std.proofs.lemmas.List.{length-replicate, get_or-replicate}
+use Rattle.std.specs.List.{copy_within}
 use Rattle.std.proofs.lemmas.List.Edits.{sets, sets-eq, length-paste}
-use Rattle.std.proofs.Math.Seq.{paste, paste-zero, paste-suc, length_paste_head}
+use Rattle.std.proofs.Math.Seq.{paste-suc, length_paste_head}
 use Rattle.lists.specs.Number.{one}
 use Rattle.lists.proofs.NumberLaws.{one-most}
 use Rattle.lists.specs.Order.{pick, ordered}
 use Rattle.lists.proofs.Below.{below_next, passing}
 use Rattle.words.specs.Front.{at_front, front-more, front-behind}
 use Rattle.catalogue.specs.Format.{record_size, records_in}
-use Rattle.catalogue_cut.specs.Flight.{record_at, records_at, freed}
+use Rattle.catalogue_cut.specs.Flight.{record_at, records_at}
 use Rattle.catalogue_cut.specs.Records.{Inside}
 use Rattle.catalogue_cut.proofs.Records.{record-length, record-byte, records-append, records-length}
 use Rattle.catalogue_cut.specs.Shifted.{marked, copied, added, Moved}
@@ -52,6 +52,16 @@ module _ (bytes : List ℕ) (i to : ℕ) (h : to ≤ i) (l : i < records_in byte
       let n = record-length bytes i l in
       (λ j. take at bytes ++ take_all record_size (record_at bytes i) (omega arith) j ++ drop (at + sym n j) bytes)
       ∙ sym (sets-eq (record_at bytes i) bytes at (omega arith))
+
+  -- the record as a part of the buffer, over the earlier one
+  pub copied-part : copy_within bytes (record_size * i) (record_size * i + record_size) at ≡ sets bytes at (record_at bytes i)
+  unfolding record_at
+  copied-part =
+      let e : record_size * i + record_size - record_size * i ≡ record_size = omega arith in
+      let n = record-length bytes i l in
+      (λ j. take at bytes ++ take (e j) (drop (record_size * i) bytes) ++ drop (at + e j) bytes)
+      ∙ (λ j. take at bytes ++ take record_size (drop (record_size * i) bytes) ++ drop (at + sym n j) bytes)
+      ∙ sym (sets-eq (take record_size (drop (record_size * i) bytes)) bytes at (omega arith))
 
 marked_next : (marks : List ℕ) (i : ℕ) → marked marks (i + 1) ≡ marked marks i ++ pick (eqb (get_or marks i 0) 0) (i ∷ []) []
 marked_next marks i = ap (marked marks) (add-one i) ∙ below_next (λ k. eqb (get_or marks k 0) 0) i

@@ -1,6 +1,6 @@
 -- The dot product of two records is that of the decoded stars, whichever comes first. Assumes nothing.
-use Rattle.std.specs.Prelude.{◌≡◌, List, ℕ, ◌+◌, ◌*◌, ◌<◌, ℤ, pos, ◌+ℤ◌, ◌*ℤ◌, get_or}
-use Rattle.std.proofs.Common.{ap, ◌∙◌, add-zero, arith}
+use Rattle.std.specs.Prelude.{◌≡◌, List, ℕ, ◌*◌, ◌<◌, pos, ◌+ℤ◌, ◌*ℤ◌, get_or}
+use Rattle.std.proofs.Common.{add-zero, arith}
 use Rattle.std.proofs.Math.IntN.{*ℤ_comm}
 use Rattle.vectors.specs.Triples.{triple_at, pair_dot}
 use Rattle.catalogue.specs.Format.{records_in, component_of}

@@ -1,21 +1,16 @@
 -- Records moved to the front, and room that is filled: what stands where on the way. Assumes nothing.
-use Rattle.std.specs.Prelude.{Bool, ◌≡◌, ℕ, suc, ◌+◌, ◌*◌, ◌-◌, ◌/◌, ◌≤◌, ◌<◌, eqb, get_or, drop, set, replicate}
-use Rattle.std.proofs.Math.Bool.{true, false}
-use Rattle.std.proofs.Math.Path.{refl, sym, ap}
-use Rattle.std.proofs.Common.{◌∙◌, lt_of_lt_of_le, add-one, arith, length-append, length-drop, drop_of_length-le, take_all, get_or-append-add, get_or-drop}
-use mathlib.Core.List.{List, [], ◌∷◌, ◌++◌, append_assoc, append-nil}
+use Rattle.std.specs.Prelude.{◌≡◌, ℕ, ◌+◌, ◌*◌, ◌-◌, ◌≤◌, ◌<◌, eqb, get_or, set, replicate}
+use Rattle.std.proofs.Math.Path.{sym, ap}
+use Rattle.std.proofs.Common.{◌∙◌, add-one, arith, drop_of_length-le, take_all}
+use mathlib.Core.List.{List, [], ◌++◌, append-nil}
 use Rattle.std.proofs.Math.ListN.{length, take}
 use Rattle.std.proofs.lemmas.List.{length-replicate, get_or-replicate}
-use Rattle.std.proofs.lemmas.List.Edits.{sets, sets-eq, length-paste}
-use Rattle.std.proofs.Math.Seq.{paste, paste-zero, paste-suc, length_paste_head}
-use Rattle.lists.specs.Number.{one}
-use Rattle.lists.proofs.NumberLaws.{one-most}
+use Rattle.std.proofs.lemmas.List.Edits.{length-paste}
+use Rattle.std.proofs.Math.Seq.{paste, paste-suc}
 use Rattle.lists.specs.Order.{pick, ordered}
-use Rattle.lists.proofs.Below.{below_next, passing}
-use Rattle.words.specs.Front.{at_front, front-more, front-behind}
-use Rattle.catalogue.specs.Format.{record_size, records_in}
+use Rattle.words.specs.Front.{at_front}
+use Rattle.catalogue.specs.Format.{record_size}
 use Rattle.catalogue_cut.specs.Flight.{record_at, records_at, freed}
-use Rattle.catalogue_cut.specs.Records.{Inside}
 
 -- the records below n whose mark is 0, in their order
 abbrev pub marked : List ℕ → ℕ → List ℕ

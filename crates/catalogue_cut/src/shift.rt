@@ -7,8 +7,9 @@ ghost use Rattle.words.specs.Front.{at_front};
 ghost use Rattle.catalogue.specs.Format.{record_size, records_in};
 ghost use Rattle.catalogue_cut.specs.Flight.{record_at, records_at, freed};
 ghost use Rattle.catalogue_cut.specs.Shifted.{marked};
+ghost use Rattle.catalogue_cut.specs.marks.Number.{number_of, numbers_of};
 
-use crate::marks::KEPT;
+use crate::marks::Mark;
 use catalogue::RECORD_SIZE;
 
 // What freed room is filled with.
@@ -20,21 +21,16 @@ fn copy(bytes: &mut [u8], i: usize, to: usize)
     ensures { bytes.new ≡ sets bytes.old (record_size * to) (record_at bytes.old i) }
 {
     let from = RECORD_SIZE * i;
-    let at = RECORD_SIZE * to;
-    let mut k: usize = 0;
-    while k < RECORD_SIZE {
-        bytes[at + k] = bytes[from + k];
-        k += 1;
-    }
+    bytes.copy_within(from..from + RECORD_SIZE, RECORD_SIZE * to);
 }
 
 // Copies record i behind the records that are kept so far, if its mark says that it is kept. How many there are then.
-fn pass(bytes: &mut [u8], mark: u8, i: usize, kept: usize) -> usize
+fn pass(bytes: &mut [u8], mark: Mark, i: usize, kept: usize) -> usize
     requires { (kept ≤ i) × (i < records_in bytes.old) }
-    ensures value { result ≡ kept + one (eqb mark 0) }
-    ensures bytes_after { bytes.new ≡ sets bytes.old (record_size * kept) (pick (eqb mark 0) (record_at bytes.old i) []) }
+    ensures value { result ≡ kept + one (eqb (number_of mark) 0) }
+    ensures bytes_after { bytes.new ≡ sets bytes.old (record_size * kept) (pick (eqb (number_of mark) 0) (record_at bytes.old i) []) }
 {
-    if mark != KEPT {
+    if mark != Mark::Kept {
         return kept;
     }
     copy(bytes, i, kept);
@@ -42,18 +38,15 @@ fn pass(bytes: &mut [u8], mark: u8, i: usize, kept: usize) -> usize
 }
 
 // Moves the records that are kept to the front, in their order. How many there are.
-pub(crate) fn forward(bytes: &mut [u8], marks: &[u8]) -> usize
+pub(crate) fn forward(bytes: &mut [u8], marks: &[Mark]) -> usize
     requires { records_in bytes.old ≤ length marks.now }
-    ensures value { result ≡ length (marked marks.now (records_in bytes.old)) }
-    ensures bytes_after { bytes.new ≡ at_front (records_at bytes.old (marked marks.now (records_in bytes.old)))
+    ensures value { result ≡ length (marked (numbers_of marks.now) (records_in bytes.old)) }
+    ensures bytes_after { bytes.new ≡ at_front (records_at bytes.old (marked (numbers_of marks.now) (records_in bytes.old)))
         bytes.old }
 {
-    let total = catalogue::records(bytes);
-    let mut kept: usize = 0;
-    let mut i: usize = 0;
-    while i < total {
+    let mut kept = 0;
+    for i in 0..catalogue::records(bytes) {
         kept = pass(bytes, marks[i], i, kept);
-        i += 1;
     }
     kept
 }
@@ -63,10 +56,5 @@ pub(crate) fn fill(bytes: &mut [u8], from: usize)
     requires { from ≤ length bytes.old }
     ensures { bytes.new ≡ take from bytes.old ++ replicate (length bytes.old - from) freed }
 {
-    let count = bytes.len() - from;
-    let mut k: usize = 0;
-    while k < count {
-        bytes[from + k] = FREED;
-        k += 1;
-    }
+    bytes[from..].fill(FREED);
 }

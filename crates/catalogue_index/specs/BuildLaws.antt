@@ -1,7 +1,6 @@
 -- The builder's answer step by step, as the code meets it. Assumes nothing.
 use Rattle.std.specs.Prelude.{◌≡◌, ℕ, ◌*◌, ◌<◌, ◌≤◌, true, false, List, ◌++◌, length, drop, ℤ}
 use Rattle.std.proofs.Common.{arith, lt-ltb, le-ltb}
-use Rattle.refusal.specs.declared.Outcome.{Outcome}
 use Rattle.refusal.specs.declared.Refusal.{Refusal}
 use Rattle.refusal.specs.Numbers as number
 use Rattle.refusal.specs.Table.{first_applying}
@@ -14,11 +13,11 @@ use Rattle.catalogue.specs.CheckLaws.{valid-accepted}
 use Rattle.catalogue.specs.Stars.{stars_of}
 use Rattle.catalogue.specs.Valid.{Valid}
 use Rattle.catalogue.specs.ValidStars.{valid-length, valid-within}
-use Rattle.vectors.specs.Triples.{triples, Listed}
+use Rattle.vectors.specs.Triples.{Listed}
 use Rattle.catalogue_index.specs.records.FormatLaws.{encoded-length}
-use Rattle.refusal.specs.declared.Counted.TheVariants.{Refused, Count}
 use Rattle.catalogue_index.specs.Index.{keys_of, index_of}
 use Rattle.catalogue_index.specs.Build.{room_short, refusals_of, built_of, room_after, built_from, room_from, answer_for}
+use Rattle.std.specs.Prelude.{Ok, Err}
 
 pub index-length : (stars : List ℤ) (floor : ℤ) → length (index_of stars floor) ≡ 12 * length (keys_of stars floor)
 unfolding index_of
@@ -31,7 +30,7 @@ module _ (stars : List ℤ) (floor : ℤ) (room : List ℕ) where
     short : room_short stars floor (length room) ≡ true
     short = lt-ltb (length room) (length (index_of stars floor)) (omega (arith, index-length stars floor))
 
-    pub refused-from : built_from stars floor (length room) ≡ Refused (record { number = number.index_room; place = 0 })
+    pub refused-from : built_from stars floor (length room) ≡ Err (record { number = number.index_room; place = 0 })
     unfolding built_from
     refused-from = rw short
 
@@ -43,7 +42,7 @@ module _ (stars : List ℤ) (floor : ℤ) (room : List ℕ) where
     enough : room_short stars floor (length room) ≡ false
     enough = le-ltb (length room) (length (index_of stars floor)) (omega (arith, index-length stars floor))
 
-    pub records-from : built_from stars floor (length room) ≡ Count (length (keys_of stars floor))
+    pub records-from : built_from stars floor (length room) ≡ Ok (length (keys_of stars floor))
     unfolding built_from
     records-from = rw enough
 
@@ -70,10 +69,10 @@ module _ (bytes : List ℕ) (floor : ℤ) where
   answers size = count_by records (refusals_of bytes floor size)
 
   -- the catalogue is refused
-  module _ (r : Refusal) (e : first_applying (catalogue.refusals_of bytes) ≡ Outcome.Refused r) where
-    pub catalogue-refused : (size : ℕ) → built_of bytes floor size ≡ Refused r
+  module _ (r : Refusal) (e : first_applying (catalogue.refusals_of bytes) ≡ Err r) where
+    pub catalogue-refused : (size : ℕ) → built_of bytes floor size ≡ Err r
     unfolding built_of refusals_of
-    catalogue-refused size = last-unasked Refused (Count records) (catalogue.refusals_of bytes) (room_short (stars_of bytes) floor size) number.index_room r e
+    catalogue-refused size = last-unasked Err (Ok records) (catalogue.refusals_of bytes) (room_short (stars_of bytes) floor size) number.index_room r e
 
     pub catalogue-kept : (room : List ℕ) → room_after bytes floor room ≡ room
     unfolding room_after refusals_of
@@ -84,7 +83,7 @@ module _ (bytes : List ℕ) (floor : ℤ) where
   module _ (v : Valid bytes) where
     pub valid-built : (size : ℕ) → built_of bytes floor size ≡ built_from (stars_of bytes) floor size
     unfolding built_of refusals_of built_from
-    valid-built size = last-decides Refused (Count records) (catalogue.refusals_of bytes) (room_short (stars_of bytes) floor size) number.index_room
+    valid-built size = last-decides Err (Ok records) (catalogue.refusals_of bytes) (room_short (stars_of bytes) floor size) number.index_room
         (valid-accepted bytes v)
 
     pub valid-room : (room : List ℕ) → room_after bytes floor room ≡ room_from (stars_of bytes) floor room

@@ -1,6 +1,6 @@
 -- A small index, computed from the definitions. Of four stars the first two are opposite, so their dot product is the least, and the third is at right
 -- angles to both; the fourth is the third again. Assumes nothing.
-use Rattle.std.specs.Prelude.{◌≡◌, List, [], ◌∷◌, ◌++◌, ℤ, pos, negsuc, refl}
+use Rattle.std.specs.Prelude.{◌≡◌, List, [], ◌∷◌, ℤ, pos, negsuc, refl}
 use Rattle.words.specs.Bytes.{bytes_of}
 use Rattle.vectors.specs.Triples.{triple_at, pair_dot}
 use Rattle.catalogue_index.specs.records.Format.{record_of, encoded}

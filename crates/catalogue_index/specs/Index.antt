@@ -1,5 +1,5 @@
 -- The index of a catalogue's pairs for a floor. Stars are a list in threes. Assumes nothing.
-use Rattle.std.specs.Prelude.{ℕ, zero, suc, ◌+◌, ◌*◌, Bool, cond, List, [], ◌∷◌, ◌++◌, ℤ, nat_le}
+use Rattle.std.specs.Prelude.{ℕ, zero, suc, ◌+◌, ◌*◌, cond, List, [], ◌∷◌, ◌++◌, ℤ, nat_le}
 use Rattle.vectors.specs.Triples.{triples, pair_dot}
 use Rattle.catalogue_index.specs.records.Format.{key_from, encoded}
 use Rattle.catalogue_index.specs.records.Order.{sorted}

@@ -1,18 +1,14 @@
 -- The keys of pairs: how large they are, and that a key tells its pair. Assumes nothing.
-use Rattle.std.specs.Prelude.{◌≡◌, ℕ, zero, suc, ◌+◌, ◌*◌, ◌<◌, ◌≤◌, Bool, true, false, cond, List, [], ◌∷◌, ◌++◌, ℤ, FitsSigned, nat_le, refl}
+use Rattle.std.specs.Prelude.{ℕ, zero, suc, ◌<◌, ◌≤◌, Bool, true, false, cond, List, [], ◌∷◌, ℤ, FitsSigned, nat_le}
 use Rattle.std.proofs.Common.{arith, lit<}
 use Rattle.std.specs.Int.{w64}
 use Rattle.numbers.specs.Within.{within-fits}
-use Rattle.vectors.specs.Triples.{triples, Listed, pair_dot}
+use Rattle.vectors.specs.Triples.{Listed, pair_dot}
 use Rattle.vectors.specs.Laws.{pair-within}
-use Rattle.catalogue_index.specs.records.FormatLaws.{Keys}
+use Rattle.catalogue_index.specs.records.FormatLaws.{Keys, keys-append}
 use Rattle.catalogue_index.specs.Raised.{raised}
 use Rattle.catalogue_index.specs.RaisedLaws.{raised-fits}
 use Rattle.catalogue_index.specs.Index.{collected, key_of, entry_of, row_of, pairs_of}
-
-keys-append : (xs ys : List ℕ) → Keys xs → Keys ys → Keys (xs ++ ys)
-keys-append [] ys p q = q
-keys-append (x ∷ xs) ys p q = (p.0, keys-append xs ys p.1 q)
 
 keys-collected : (f : ℕ → List ℕ) (n : ℕ) → ((i : ℕ) → i < n → Keys (f i)) → Keys (collected n f)
 unfolding collected

@@ -1,5 +1,5 @@
 -- Which keys the pairs have that are found: each pair with a large enough dot product once, and no other. Assumes nothing.
-use Rattle.std.specs.Prelude.{◌≡◌, ℕ, zero, suc, ◌+◌, ◌*◌, ◌<◌, ◌≤◌, Bool, true, false, cond, List, [], ◌∷◌, ◌++◌, ℤ, ◌≢◌, refl}
+use Rattle.std.specs.Prelude.{◌≡◌, ℕ, zero, suc, ◌+◌, ◌*◌, ◌<◌, ◌≤◌, List, [], ℤ, ◌≢◌, refl}
 use Rattle.std.proofs.Common.{sym, ap, ◌∙◌, not-suc-le-zero, arith}
 use Rattle.std.proofs.Math.Decide.{ℕ_discrete, dec_lt, dec_le}
 use borrow.Author.Tests.{eq-eqb}
@@ -8,7 +8,7 @@ use Rattle.vectors.specs.Triples.{pair_dot}
 use Rattle.catalogue_index.specs.records.Format.{key_from}
 use Rattle.catalogue_index.specs.records.Order.{sorted}
 use Rattle.catalogue_index.specs.records.OrderLaws.{sorted-same, sorted-sorted}
-use Rattle.catalogue_index.specs.records.Rising.{Rising, sorted-rising, count-append, count_head, count-tail}
+use Rattle.catalogue_index.specs.records.Rising.{Rising, sorted-rising, count-append, count-tail}
 use Rattle.catalogue_index.specs.Raised.{raised}
 use Rattle.catalogue_index.specs.Index.{collected, key_of, entry_of, row_of, pairs_of}
 use Rattle.catalogue_index.specs.IndexSteps.{entry-taken, entry-left}

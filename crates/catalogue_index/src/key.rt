@@ -1,6 +1,5 @@
 // The key of a pair of stars: its dot product and its two record numbers.
 ghost use Rattle.std.specs.Prelude.{◌≡◌, ◌+◌, ◌*◌, ◌<◌};
-ghost use Rattle.numbers.specs.Within.{Within};
 ghost use Rattle.vectors.specs.Triples.{triples, Listed, pair_dot};
 ghost use Rattle.catalogue_index.specs.Raised.{raised};
 
@@ -8,19 +7,7 @@ ghost use Rattle.catalogue_index.specs.Raised.{raised};
 pub fn raise(p: i64) -> u64
     ensures { result ≡ raised p }
 {
-    let size = numbers::abs(p);
-    if p < 0 {
-        return 9223372036854775808 - size;
-    }
-    9223372036854775808 + size
-}
-
-// The same of a dot product. It is small enough to lose its sign half the way up, so no test is needed.
-fn raise_product(p: i64) -> u64
-    requires { Within 3000000000000000000 p }
-    ensures { result ≡ raised p }
-{
-    (p + 4611686018427387904) as u64 + 4611686018427387904
+    9223372036854775808u64.wrapping_add_signed(p)
 }
 
 // The two record numbers in one word.
@@ -37,5 +24,5 @@ pub fn product(stars: &[i32], a: usize, b: usize) -> u64
     requires a_bound { (a < triples stars.now) × (b < triples stars.now) }
     ensures { result ≡ raised (pair_dot stars.now a b) }
 {
-    raise_product(vectors::pair_dot(stars, a, b))
+    raise(vectors::pair_dot(stars, a, b))
 }

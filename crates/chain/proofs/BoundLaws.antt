@@ -1,21 +1,14 @@
 -- How large the parts of the chain's answer are: the refusal's number and place, and the entries of the matrix. Assumes nothing.
-use Rattle.std.specs.Prelude.{Bool, true, false, not, cond, ◌≡◌, refl, List, [], ◌∷◌, ◌⊎◌, length}
-use Rattle.std.proofs.Common.{sym, ap, ◌∙◌, arith, ltb-true, eqb-true}
+use Rattle.std.specs.Prelude.{Bool, true, false, ◌≡◌, refl, List, [], ◌∷◌, length}
+use Rattle.std.proofs.Common.{sym, ap, arith, ltb-true, eqb-true}
 use Rattle.std.proofs.Math.Path.{subst}
 use Rattle.std.proofs.Math.Logic.{⊎_elim}
 use Prim.Native.Nat.{ℕ, ◌*◌, ◌≤◌, zero-le}
 use Rattle.std.proofs.lemmas.Bool.{not-false}
 use Rattle.refusal.specs.declared.Refusal.{Refusal}
-use Rattle.refusal.specs.declared.Outcome.{Outcome}
-use Rattle.refusal.specs.declared.Outcome.TheVariants.{Accepted, Refused}
-use Rattle.refusal.specs.Numbers as number
-use Rattle.refusal.specs.Table.{Row, refusal_of, row_at, first_applying, answered, otherwise}
-use Rattle.refusal.specs.Answer.{answer_of}
-use Rattle.numbers.specs.Within.{Within}
-use Rattle.vectors.specs.declared.Vec3.{Vec3}
-use Rattle.vectors.specs.Vectors.{Within3}
+use Rattle.refusal.specs.Table.{Row, row_at, first_applying, answered, otherwise}
 use Rattle.frame_list.specs.declared.Report.{Report}
-use Rattle.frame_list.specs.input.Input.{size_out, length_out, first_over, frame_rows}
+use Rattle.frame_list.specs.input.Input.{first_over, frame_rows}
 use Rattle.frame_list.specs.input.InputLaws.{size-most}
 use Rattle.frame_list.specs.ListingLaws.{listing-outcome}
 use Rattle.catalogue.specs.Check as catalogue
@@ -25,35 +18,18 @@ use Rattle.catalogue.specs.RuleLaws.{ok-length}
 use Rattle.catalogue.specs.Stars.{stars_of}
 use Rattle.search.specs.Identified as sought
 use Rattle.attitude.specs.declared.Matrix.{Matrix}
-use Rattle.attitude.specs.declared.Attitude.{Attitude}
-use Rattle.attitude.specs.declared.Attitude.TheVariants as attitude
-use Rattle.attitude.specs.Entries.{MatrixWithin}
-use Rattle.attitude.proofs.Laws.{in-range-answer, entries-within}
+use Rattle.attitude.proofs.Laws.{in-range-answer}
 use Rattle.chain.specs.declared.Settings.{Settings}
-use Rattle.chain.specs.declared.Tracked.{Tracked}
 use Rattle.attitude.specs.orient.Orient.{orientation_of}
-use Rattle.chain.specs.Chain.{
-  Call,
-  listed,
-  zeros,
-  refused_with,
-  oriented,
-  settled_of,
-  sights_of,
-  our_identification,
-  located_of,
-  settings_rows,
-  demand_rows,
-  refusals_of,
-  tracked_of,
-}
+use Rattle.chain.specs.Chain.{Call, listed, refused_with, oriented, settled_of, sights_of, our_identification, located_of, settings_rows, demand_rows, refusals_of, tracked_of}
 use Rattle.chain.specs.Ready.{Ready}
 use Rattle.chain.specs.AdmitLaws.{refusals-joined}
 use Rattle.chain.proofs.ReadyLaws.{ready}
 use Rattle.chain.specs.NeverLaws.{search-known, in-range}
 use Rattle.chain.specs.BoundLaws.{Low}
+use Rattle.std.specs.Prelude.{Result, Ok, Err}
 
-accepted-low : Low Accepted
+accepted-low : Low (Ok tt)
 accepted-low = record { number = zero-le; place = zero-le }
 
 none-low : Low (first_applying [])
@@ -66,9 +42,9 @@ unfolding first_applying
 row_low true n p rows h f g = record { number = h; place = f refl }
 row_low false n p rows h f g = g refl
 
-otherwise-low : (a b : Outcome) → Low a → Low b → Low (otherwise a b)
-otherwise-low Accepted b h k = k
-otherwise-low (Refused r) b h k = h
+otherwise-low : (a b : Result Unit Refusal) → Low a → Low b → Low (otherwise a b)
+otherwise-low (Ok _) b h k = k
+otherwise-low (Err r) b h k = h
 
 frame-low : (samples : List ℕ) (width height threshold : ℕ) → Low (first_applying (frame_rows samples width height threshold))
 frame-low samples width height threshold =
@@ -109,26 +85,26 @@ rows-low c =
 
 -- behind the list only 13 and 14 are given, with the place 0
 module _ (report : Report) (bytes : List ℕ) (s : Settings) (room : List ℕ) (h : Ready report bytes s room) where
-  abbrev turned : Attitude
+  abbrev turned : Result Matrix Refusal
   turned = orientation_of (sights_of report bytes s) (stars_of bytes) (our_identification report bytes s).stars
 
-  abbrev by-search : Outcome → Outcome
+  abbrev by-search : Result Unit Refusal → Result Unit Refusal
   by-search o = (answered refused_with (oriented report (our_identification report bytes s).stars turned) o).outcome
 
-  abbrev by-attitude : Attitude → Outcome
+  abbrev by-attitude : Result Matrix Refusal → Result Unit Refusal
   by-attitude a = (oriented report (our_identification report bytes s).stars a).outcome
 
   located-low : Low (located_of report bytes s).outcome
   unfolding located_of settled_of orientation_of
   located-low =
       ⊎_elim
-      (λ (k : (our_identification report bytes s).outcome ≡ Accepted).
+      (λ (k : (our_identification report bytes s).outcome ≡ Ok tt).
       subst Low (sym (ap by-search k))
       (⊎_elim
       (λ t. subst Low (sym (ap by-attitude t)) (record { number = omega arith; place = zero-le }))
       (λ t. subst Low (sym (ap by-attitude t)) accepted-low)
       (in-range-answer _ _ _ _ (in-range report bytes s room h _ _ _ _))))
-      (λ (k : (our_identification report bytes s).outcome ≡ Refused sought.no_fit).
+      (λ (k : (our_identification report bytes s).outcome ≡ Err sought.no_fit).
       subst Low (sym (ap by-search k)) (record { number = omega arith; place = zero-le }))
       (search-known report bytes s room h)
 
@@ -136,6 +112,6 @@ pub tracked-low : (c : Call) → Low (tracked_of c).outcome
 unfolding tracked_of
 tracked-low c = by (first_applying (refusals_of c)) refl
   where
-    by : (o : Outcome) → first_applying (refusals_of c) ≡ o → Low (answered refused_with (located_of (listed c).report c.catalogue c.settings) o).outcome
-    by (Refused r) e = subst Low e (rows-low c)
-    by Accepted e = located-low (listed c).report c.catalogue c.settings c.room (ready c e)
+    by : (o : Result Unit Refusal) → first_applying (refusals_of c) ≡ o → Low (answered refused_with (located_of (listed c).report c.catalogue c.settings) o).outcome
+    by (Err r) e = subst Low e (rows-low c)
+    by (Ok _) e = located-low (listed c).report c.catalogue c.settings c.room (ready c e)

@@ -1,5 +1,7 @@
 -- The laws of the definitions in specs/.
 pub mod BoundLaws
+pub mod Catalogue
+pub mod Lent
 pub mod NamesLaws
 pub mod NeverLaws
 pub mod ReadyLaws

@@ -1,8 +1,7 @@
 -- The refusals that the chain gives before it writes anything, one row at a time. Assumes nothing.
-use Rattle.std.specs.Prelude.{true, false, not, ◌≡◌, List, ◌++◌, ℕ, ◌≤◌, ◌<◌, ltb, length}
-use Rattle.std.proofs.Common.{sym, ap, ◌∙◌}
+use Rattle.std.specs.Prelude.{true, false, ◌≡◌, ◌++◌, ℕ, ◌≤◌, ◌<◌, length}
+use Rattle.std.proofs.Common.{ap, ◌∙◌}
 use borrow.Author.Tests.{lt-ltb, le-ltb}
-use Rattle.refusal.specs.declared.Outcome.TheVariants.{Accepted}
 use Rattle.refusal.specs.Numbers as number
 use Rattle.refusal.specs.Table.{refusal_of, first_applying, otherwise}
 use Rattle.refusal.proofs.Laws.{applying-append}
@@ -14,6 +13,7 @@ use Rattle.catalogue.specs.Check as catalogue
 use Rattle.search.specs.Refusals.{demand_ok}
 use Rattle.chain.specs.declared.Settings.{Settings}
 use Rattle.chain.specs.Chain.{Call, listed, settings_rows, demand_rows, refusals_of}
+use Rattle.std.specs.Prelude.{Ok}
 
 module _ (s : Settings) where
   pub lens-refused : lens_ok s.lens ≡ false → first_applying (settings_rows s) ≡ refusal_of number.lens 0
@@ -24,7 +24,7 @@ module _ (s : Settings) where
   unfolding settings_rows first_applying
   settings-refused e k = rw (e, k)
 
-  pub settings-passed : lens_ok s.lens ≡ true → position_ok s.cx s.cy ≡ true → first_applying (settings_rows s) ≡ Accepted
+  pub settings-passed : lens_ok s.lens ≡ true → position_ok s.cx s.cy ≡ true → first_applying (settings_rows s) ≡ Ok tt
   unfolding settings_rows first_applying
   settings-passed e k = rw (e, k)
 
@@ -42,7 +42,7 @@ module _ (s : Settings) where
     unfolding demand_rows first_applying
     few-refused e h k = rw (e, le-ltb words 4096 h, lt-ltb count s.needed k)
 
-    pub demand-passed : demand_ok s.needed s.tolerance ≡ true → 4096 ≤ words → s.needed ≤ count → first_applying (demand_rows s words count) ≡ Accepted
+    pub demand-passed : demand_ok s.needed s.tolerance ≡ true → 4096 ≤ words → s.needed ≤ count → first_applying (demand_rows s words count) ≡ Ok tt
     unfolding demand_rows first_applying
     demand-passed e h k = rw (e, le-ltb words 4096 h, le-ltb count s.needed k)
 

@@ -1,41 +1,19 @@
 -- Magnitudes have no say in the chain: for two valid catalogues with the same identities and directions it gives the same answer and leaves the same words in
 -- the room. Assumes nothing.
-use Rattle.std.specs.Prelude.{◌≡◌, List, ◌++◌, ℕ, ◌*◌, ℤ, length}
+use Rattle.std.specs.Prelude.{◌≡◌, List, ◌++◌, ℕ, ◌*◌, length}
 use Rattle.std.proofs.Math.Path.{refl, ap}
 use Rattle.std.proofs.Common.{◌∙◌}
 use Rattle.std.proofs.Math.ListN.{drop}
-use Rattle.refusal.specs.declared.Outcome.{Outcome}
 use Rattle.refusal.specs.Table.{first_applying, answered}
 use Rattle.frame_list.specs.declared.Report.{Report}
 use Rattle.frame_list.specs.input.Input.{frame_rows}
-use Rattle.frame_list.specs.Calls.{listing_of}
 use Rattle.catalogue.specs.Alike.{Alike, stars-same, rows_same}
 use Rattle.ranking.specs.Alike.{ranking-same}
-use Rattle.search.specs.declared.Identification.{Identification}
 use Rattle.search.specs.Identified.{identification_of}
 use Rattle.search.specs.Alike.{search-same}
 use Rattle.chain.specs.declared.Settings.{Settings}
-use Rattle.chain.specs.declared.Tracked.{Tracked}
 use Rattle.attitude.specs.orient.Orient.{orientation_of}
-use Rattle.chain.specs.Chain.{
-  refused_with,
-  oriented,
-  settled_of,
-  sights_of,
-  our_ranking,
-  our_identification,
-  located_of,
-  ranked_room,
-  Call,
-  call,
-  listed,
-  settings_rows,
-  demand_rows,
-  refusals_of,
-  tracked_of,
-  room_after,
-  names_of,
-}
+use Rattle.chain.specs.Chain.{refused_with, oriented, settled_of, sights_of, our_ranking, our_identification, located_of, ranked_room, Call, call, listed, settings_rows, demand_rows, refusals_of, tracked_of, room_after, names_of}
 
 module _ {first second : List ℕ} (a : Alike first second) where
   -- ---- the steps behind the frame's list

@@ -1,7 +1,6 @@
 -- The whole chain: list, directions, ranking, search and attitude, each step made of the answer of the one before it, until one refuses. Assumes nothing.
-use Rattle.std.specs.Prelude.{Bool, not, List, [], ◌∷◌, ◌++◌, ℕ, ◌*◌, ltb, ℤ, pos, length, take, drop, replicate}
+use Rattle.std.specs.Prelude.{not, List, [], ◌∷◌, ◌++◌, ℕ, ◌*◌, ltb, ℤ, pos, length, take, drop, replicate}
 use Rattle.refusal.specs.declared.Refusal.{Refusal}
-use Rattle.refusal.specs.declared.Outcome.TheVariants as outcome
 use Rattle.refusal.specs.Numbers as number
 use Rattle.refusal.specs.Table.{Row, row, first_applying, answered}
 use Rattle.vectors.specs.declared.Vec3.{Vec3}
@@ -20,12 +19,11 @@ use Rattle.search.specs.declared.Identification.{Identification}
 use Rattle.search.specs.Refusals.{demand_ok}
 use Rattle.search.specs.Identified.{identification_of}
 use Rattle.attitude.specs.declared.Matrix.{Matrix}
-use Rattle.attitude.specs.declared.Attitude.{Attitude}
-use Rattle.attitude.specs.declared.Attitude.TheVariants as attitude
 use Rattle.chain.specs.declared.Settings.{Settings}
 use Rattle.chain.specs.declared.Tracked.{Tracked}
 use Rattle.chain.specs.Sight.{directions_of}
 use Rattle.attitude.specs.orient.Orient.{orientation_of}
+use Rattle.std.specs.Prelude.{Result, Ok, Err}
 
 -- ---- an answer
 
@@ -34,11 +32,11 @@ zeros = record { x = pos 0; y = pos 0; z = pos 0 }
 
 -- a refused call hands over no list, no assignment and no matrix
 abbrev pub refused_with : Refusal → Tracked
-refused_with r = record { outcome = outcome.Refused r; report = nothing; stars = replicate 8 0; matrix = record { row0 = zeros; row1 = zeros; row2 = zeros } }
+refused_with r = record { outcome = Err r; report = nothing; stars = replicate 8 0; matrix = record { row0 = zeros; row1 = zeros; row2 = zeros } }
 
-abbrev pub oriented : Report → List ℕ → Attitude → Tracked
-oriented report words (attitude.Refused r) = refused_with r
-oriented report words (attitude.Found m) = record { outcome = outcome.Accepted; report = report; stars = words; matrix = m }
+abbrev pub oriented : Report → List ℕ → Result Matrix Refusal → Tracked
+oriented report words (Err r) = refused_with r
+oriented report words (Ok m) = record { outcome = Ok tt; report = report; stars = words; matrix = m }
 
 -- the attitude of what a search found, or its refusal
 unfoldable pub settled_of : Report → List ℤ → List ℕ → Identification → Tracked

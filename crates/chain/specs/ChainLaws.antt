@@ -1,35 +1,27 @@
 -- What the steps behind the frame's list hand to each other: 8 and 11 cannot arise, the ranking stands at the front of the room, and what the search
 -- finds gives at least two directions a star. Assumes nothing.
-use Rattle.std.specs.Prelude.{true, ◌≡◌, refl, List, ◌++◌, ◌⊎◌, ℕ, ◌+◌, ◌*◌, ◌/◌, ◌-◌, ◌≤◌, ◌<◌, ℤ, pos, length, take, drop, replicate}
-use Rattle.std.proofs.Common.{sym, ◌∙◌, subst, ⊎_elim, mul-le-mul, arith, length-take-le}
+use Rattle.std.specs.Prelude.{◌≡◌, List, ◌++◌, ℕ, ◌*◌, ◌-◌, ◌≤◌, ℤ, pos, length, take, drop, replicate}
+use Rattle.std.proofs.Common.{◌∙◌, mul-le-mul, arith, length-take-le}
 use Rattle.std.proofs.Math.Path.{ap}
 use Rattle.std.proofs.Math.ListN.{length-append}
 use Rattle.std.proofs.lemmas.List.{length-replicate}
 use Rattle.std.proofs.Math.Seq.{take_at}
-use Rattle.refusal.specs.declared.Outcome.TheVariants.{Accepted}
-use Rattle.refusal.specs.Numbers as number
-use Rattle.refusal.specs.Table.{refusal_of}
-use Rattle.vectors.specs.Triples.{AllWithin, triples}
+use Rattle.vectors.specs.Triples.{triples}
 use Rattle.frame_list.specs.declared.Report.{Report}
 use Rattle.camera_direction.specs.ListLaws.{directions_in, Directions}
 use Rattle.catalogue.specs.Format.{records_in}
 use Rattle.catalogue.specs.Stars.{stars_of}
 use Rattle.catalogue.specs.ValidStars.{valid-length}
-use Rattle.ranking.specs.Ranking.{ranking_of}
-use Rattle.ranking.specs.Laws.{Ranks, ranking-length, ranks}
+use Rattle.ranking.specs.Laws.{Ranks, ranks}
 use Rattle.ranking.specs.Room as room
 use Rattle.ranking.specs.Room.{rank_outcome_of}
 use Rattle.ranking.specs.RoomLaws.{Sound, sound-accepted, room-written}
-use Rattle.search_theory.specs.Order.{Ranked, FirstOf}
-use Rattle.search_theory.specs.Problem.{assigned}
 use Rattle.search.specs.declared.Identification.{Identification}
-use Rattle.search_fit.specs.Fit.{FitsHere}
 use Rattle.search.specs.Identified.{setup_for, Searched, Identified, accepted}
 use Rattle.search.specs.Call as search
 use Rattle.search.proofs.Answers.{identified}
-use Rattle.search.proofs.Promise.{searched, accepted-fits}
+use Rattle.search.proofs.Promise.{searched}
 use Rattle.chain.specs.declared.Settings.{Settings}
-use Rattle.chain.specs.Sight.{directions_of}
 use Rattle.chain.specs.SightLaws.{directions-length, directions-within}
 use Rattle.chain.specs.Chain.{sights_of, our_ranking, our_identification, ranked_room}
 use Rattle.chain.specs.Ready.{Ready, Settles}

@@ -1,47 +1,20 @@
 -- Demand 3 of what the chain computes, on every call: it names the first assignment that fits its own directions in its own ranking's order, 13 means
 -- that none does, and behind the ranking nothing else but 14 is given. Assumes nothing.
-use Rattle.std.specs.Prelude.{◌≡◌, List, ◌⊎◌, ℕ, ◌≤◌, length}
-use Rattle.std.proofs.Math.Path.{refl, sym, ap}
-use Rattle.std.proofs.Common.{◌∙◌, arith}
-use Rattle.std.proofs.Math.Logic.{inl, inr, ⊎_elim}
-use Rattle.lists.specs.Contradiction.{contradiction}
+use Rattle.std.specs.Prelude.{◌≡◌, List, ℕ, ◌≤◌, length}
 use Rattle.refusal.specs.declared.Refusal.{Refusal}
-use Rattle.refusal.specs.declared.Outcome.{Outcome}
-use Rattle.refusal.specs.declared.Outcome.TheVariants.{Accepted, Refused}
 use Rattle.refusal.specs.Numbers as number
-use Rattle.refusal.specs.Table.{refusal_of, first_applying, answered}
-use Rattle.frame_list.specs.declared.Report.{Report}
+use Rattle.refusal.specs.Table.{refusal_of}
 use Rattle.frame_list.specs.Calls.{listing_of}
 use Rattle.camera_direction.specs.ListLaws.{directions_in}
 use Rattle.catalogue.specs.Format.{records_in}
-use Rattle.catalogue.specs.Stars.{stars_of}
 use Rattle.search_theory.specs.Order.{at}
 use Rattle.search.specs.Identified.{Identified}
 use Rattle.search.proofs.Answers.{computed-identified}
-use Rattle.attitude.specs.declared.Attitude.{Attitude}
-use Rattle.attitude.specs.declared.Attitude.TheVariants as attitude
-use Rattle.attitude.specs.orient.Orient.{orientation_of}
 use Rattle.chain.specs.declared.Settings.{Settings}
 use Rattle.chain.specs.declared.Tracked.{Tracked}
-use Rattle.chain.specs.Chain.{
-  Call,
-  listed,
-  refusals_of,
-  refused_with,
-  oriented,
-  settled_of,
-  sights_of,
-  our_ranking,
-  our_identification,
-  located_of,
-  tracked_of,
-  names_of,
-}
-use Rattle.chain.specs.Ready.{Ready, Names, Tracks}
+use Rattle.chain.specs.Chain.{Call, listed, sights_of, names_of}
 use Rattle.chain.specs.ReadyLaws.{Early}
-use Rattle.chain.specs.ChainLaws.{sights-count, our-search}
-use Rattle.chain.specs.SettledLaws.{settled-named, settled-none}
-use Rattle.chain.specs.NeverLaws.{located-late}
+use Rattle.std.specs.Prelude.{Err}
 
 -- what `chain::names` answers is the search's promise for the frame's own directions, whatever ranking is lent
 pub names-identified : (samples bytes : List ℕ) (s : Settings) (words : List ℕ)
@@ -69,7 +42,7 @@ pub record Whole (c : Call) (t : Tracked) : Type 0 where
 pub record Numbered (q : Refusal) : Type 0 where
   pub some : 1 ≤ q.number
   pub last : q.number ≤ 23
-  pub none : q.number ≡ number.no_fit → Refused q ≡ refusal_of number.no_fit 0
+  pub none : q.number ≡ number.no_fit → Err q ≡ refusal_of number.no_fit 0
 
 pub early-numbered : (q : Refusal) → Early q.number → Numbered q
 early-numbered q a = record { some = a.some; last = a.last; none = λ e. absurd (a.no-13 e) }

@@ -1,6 +1,5 @@
 -- What the steps behind the frame's list are handed, and demand 3 carried up to the chain. Assumes nothing.
-use Rattle.std.specs.Prelude.{◌≡◌, true, false, List, ℕ, ◌/◌, ◌≤◌, ℤ, length}
-use Rattle.refusal.specs.declared.Outcome.TheVariants.{Accepted}
+use Rattle.std.specs.Prelude.{◌≡◌, true, List, ℕ, ◌/◌, ◌≤◌, ℤ, length}
 use Rattle.refusal.specs.Numbers as number
 use Rattle.refusal.specs.Table.{refusal_of}
 use Rattle.frame_list.specs.declared.Report.{Report}
@@ -17,6 +16,7 @@ use Rattle.chain.specs.declared.Settings.{Settings}
 use Rattle.chain.specs.declared.Tracked.{Tracked}
 use Rattle.chain.specs.Sight.{AllInFrame}
 use Rattle.chain.specs.Chain.{sights_of, our_ranking, ranked_room, Call, listed}
+use Rattle.std.specs.Prelude.{Ok}
 
 -- a report with enough stars, each on the frame; a valid catalogue; a demand in range; and a room for any ranking
 pub record Ready (report : Report) (bytes : List ℕ) (s : Settings) (room : List ℕ) : Type 0 where
@@ -40,7 +40,7 @@ pub record RankingStands (report : Report) (directions : List ℤ) (bytes : List
 -- demand 3: an accepted call names the first assignment that fits its own directions and ranking, and 13 means that none does
 pub record Names (report : Report) (bytes : List ℕ) (s : Settings) (t : Tracked) : Type 0 where
   pub first :
-      t.outcome ≡ Accepted
+      t.outcome ≡ Ok tt
       → FirstOf (ranking_of (directions_in (sights_of report bytes s)) (records_in bytes) (our_ranking report bytes s))
       (FitsHere (setup_for (sights_of report bytes s) bytes s.needed s.tolerance) (sights_of report bytes s) (stars_of bytes)) true t.stars
   pub none :
@@ -51,7 +51,7 @@ pub record Names (report : Report) (bytes : List ℕ) (s : Settings) (t : Tracke
 pub record Settles (directions : List ℤ) (bytes : List ℕ) (found : Identification) : Type 0 where
   pub few : length directions / 3 ≤ 8
   pub catalogue : Valid bytes
-  pub two : found.outcome ≡ Accepted → 2 ≤ assigned (records_in bytes) found.stars (length directions / 3)
+  pub two : found.outcome ≡ Ok tt → 2 ≤ assigned (records_in bytes) found.stars (length directions / 3)
 
 -- the same of a whole call; where one of 1 to 12 or 19 is given, nothing is named
 abbrev pub Tracks : Call → Tracked → Type 0

@@ -1,28 +1,12 @@
 -- Where none of 1 to 12 and 19 applies, the steps behind the frame's list have what they ask for; and no other number is given before them. Assumes nothing.
-use Rattle.std.specs.Prelude.{Bool, true, false, not, ◌&&◌, ◌||◌, ◌≡◌, refl, List, [], ◌∷◌, ◌++◌, ℕ, ◌≤◌, leb, ltb, eqb, length}
+use Rattle.std.specs.Prelude.{Bool, true, not, ◌&&◌, ◌||◌, ◌≡◌, List, ℕ, ◌≤◌, leb, eqb, length}
 use Rattle.std.proofs.Math.Bool.{and-eq-true_iff}
-use Rattle.std.proofs.Common.{sym, ap, ◌∙◌, leb-true, ltb-false}
-use Rattle.std.proofs.lemmas.Bool.{not-false}
+use Rattle.std.proofs.Common.{sym, ap, ◌∙◌, leb-true}
 use Rattle.lists.specs.Contradiction.{contradiction}
-use Rattle.refusal.specs.declared.Refusal.{Refusal}
-use Rattle.refusal.specs.declared.Outcome.{Outcome}
-use Rattle.refusal.specs.declared.Outcome.TheVariants.{Accepted, Refused}
-use Rattle.refusal.specs.Table.{Row, first_applying, otherwise}
-use Rattle.refusal.specs.Laws.{Silent, otherwise-accepted, Every, every_append}
-use Rattle.refusal.proofs.Laws.{accepted-silent, applying-every}
 use Rattle.frame_list.specs.declared.Report.{Report}
-use Rattle.frame_list.specs.input.Input.{frame_rows}
 use Rattle.frame_list.specs.Calls.{listing_of}
-use Rattle.frame_list.specs.ListingLaws.{Listed, listing-listed}
-use Rattle.catalogue.specs.Check as catalogue
-use Rattle.catalogue.specs.Check.{refusals_of as catalogue_rows}
-use Rattle.catalogue.specs.CheckLaws.{accepted-valid}
-use Rattle.search.specs.Refusals.{demand_ok}
-use Rattle.chain.specs.declared.Settings.{Settings}
-use Rattle.chain.specs.Sight.{InFrame, AllInFrame}
-use Rattle.chain.specs.Chain.{Call, listed, settings_rows, demand_rows, refusals_of}
-use Rattle.chain.specs.AdmitLaws.{refusals-joined}
-use Rattle.chain.specs.Ready.{Ready}
+use Rattle.frame_list.specs.ListingLaws.{listing-listed}
+use Rattle.chain.specs.Sight.{AllInFrame}
 
 -- ---- a report's stars
 

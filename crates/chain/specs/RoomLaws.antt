@@ -1,30 +1,12 @@
 -- What the ranking room holds makes no difference to the answer, only how long it is; and a call leaves its length. Assumes nothing.
-use Rattle.std.specs.Prelude.{◌≡◌, refl, List, ◌++◌, ℕ, ◌*◌, length, drop}
+use Rattle.std.specs.Prelude.{◌≡◌, List, ◌++◌, ℕ, length}
 use Rattle.std.proofs.Math.Path.{ap}
-use Rattle.std.proofs.Common.{arith, length-append, length-drop}
-use Rattle.refusal.specs.declared.Outcome.{Outcome}
-use Rattle.refusal.specs.declared.Outcome.TheVariants.{Accepted, Refused}
 use Rattle.refusal.specs.Table.{first_applying, answered}
 use Rattle.frame_list.specs.input.Input.{frame_rows}
 use Rattle.frame_list.specs.Calls.{listing_of}
-use Rattle.catalogue.specs.Format.{records_in}
 use Rattle.catalogue.specs.Check as catalogue
 use Rattle.chain.specs.declared.Settings.{Settings}
-use Rattle.chain.specs.Chain.{
-  Call,
-  call,
-  listed,
-  settings_rows,
-  demand_rows,
-  refusals_of,
-  refused_with,
-  our_ranking,
-  located_of,
-  ranked_room,
-  tracked_of,
-  room_after,
-}
-use Rattle.chain.specs.ChainLaws.{words-most, our-length}
+use Rattle.chain.specs.Chain.{call, settings_rows, demand_rows, refusals_of, refused_with, located_of, tracked_of}
 
 module _ (samples bytes : List ℕ) (s : Settings) where
   pub any-room : (before after : List ℕ) → length before ≡ length after → tracked_of (call samples bytes s before) ≡ tracked_of (call samples bytes s after)

@@ -4,8 +4,6 @@ use Rattle.std.proofs.Math.Path.{refl, ap, subst}
 use Rattle.std.proofs.Common.{sym, ◌∙◌, arith}
 use Rattle.lists.specs.Contradiction.{contradiction}
 use Rattle.refusal.specs.declared.Refusal.{Refusal}
-use Rattle.refusal.specs.declared.Outcome.{Outcome}
-use Rattle.refusal.specs.declared.Outcome.TheVariants.{Accepted, Refused}
 use Rattle.refusal.specs.Numbers as number
 use Rattle.refusal.specs.Table.{refusal_of, first_applying, answered}
 use Rattle.vectors.specs.declared.Vec3.{Vec3}
@@ -15,60 +13,59 @@ use Rattle.search_theory.specs.Order.{Ranking, FirstOf}
 use Rattle.search.specs.declared.Identification.{Identification}
 use Rattle.search.specs.Identified.{accepted}
 use Rattle.attitude.specs.declared.Matrix.{Matrix}
-use Rattle.attitude.specs.declared.Attitude.{Attitude}
-use Rattle.attitude.specs.declared.Attitude.TheVariants as attitude
 use Rattle.attitude.specs.Attitude.{out_of_range, either_close, matrix_of, attitude_of}
 use Rattle.chain.specs.declared.Tracked.{Tracked}
 use Rattle.chain.specs.Chain.{refused_with, oriented, settled_of}
-use Rattle.attitude.specs.orient.Orient.{orientation_of, attitude_by}
+use Rattle.attitude.specs.orient.Orient.{orientation_of}
+use Rattle.std.specs.Prelude.{Result, Ok, Err}
 
 -- the number of a refusal, and 0 where there is none
-number_in : Outcome → ℕ
-number_in Accepted = 0
-number_in (Refused r) = r.number
+number_in : Result Unit Refusal → ℕ
+number_in (Ok _) = 0
+number_in (Err r) = r.number
 
-number_at : Attitude → ℕ
-number_at (attitude.Refused r) = r.number
-number_at (attitude.Found m) = 0
+number_at : Result Matrix Refusal → ℕ
+number_at (Err r) = r.number
+number_at (Ok m) = 0
 
 -- the attitude is refused with 8 or 14
 attitude-13 : (v1 v2 w1 w2 : Vec3) → number_at (attitude_of v1 v2 w1 w2) ≡ number.no_fit → ⊥
 unfolding attitude_of first_applying number_at
 attitude-13 v1 v2 w1 w2 e = by (out_of_range v1 v2 w1 w2) (either_close v1 v2 w1 w2) e
   where
-    by : (a b : Bool) → number_at (answered attitude.Refused (attitude.Found (matrix_of v1 v2 w1 w2))
-        (cond a (refusal_of number.directions 0) (cond b (refusal_of number.close 0) Accepted))) ≡ number.no_fit → ⊥
+    by : (a b : Bool) → number_at (answered Err (Ok (matrix_of v1 v2 w1 w2))
+        (cond a (refusal_of number.directions 0) (cond b (refusal_of number.close 0) (Ok tt)))) ≡ number.no_fit → ⊥
     by true b e = omega arith
     by false true e = omega arith
     by false false e = omega arith
 
 module _ (report : Report) (directions : List ℤ) (bytes : List ℕ) where
-  oriented-accepted : (words : List ℕ) (a : Attitude) → (oriented report words a).outcome ≡ Accepted → (oriented report words a).stars ≡ words
-  oriented-accepted words (attitude.Refused r) e = contradiction (cc)
-  oriented-accepted words (attitude.Found m) e = refl
+  oriented-accepted : (words : List ℕ) (a : Result Matrix Refusal) → (oriented report words a).outcome ≡ Ok tt → (oriented report words a).stars ≡ words
+  oriented-accepted words (Err r) e = contradiction (cc)
+  oriented-accepted words (Ok m) e = refl
 
-  oriented-number : (words : List ℕ) (a : Attitude) → number_in (oriented report words a).outcome ≡ number_at a
+  oriented-number : (words : List ℕ) (a : Result Matrix Refusal) → number_in (oriented report words a).outcome ≡ number_at a
   unfolding number_in number_at
-  oriented-number words (attitude.Refused r) = refl
-  oriented-number words (attitude.Found m) = refl
+  oriented-number words (Err r) = refl
+  oriented-number words (Ok m) = refl
 
   -- by the search's outcome
-  module _ (words : List ℕ) (a : Attitude) where
-    abbrev settled : Outcome → Tracked
+  module _ (words : List ℕ) (a : Result Matrix Refusal) where
+    abbrev settled : Result Unit Refusal → Tracked
     settled o = answered refused_with (oriented report words a) o
 
-    settled-accepted : (o : Outcome) → (settled o).outcome ≡ Accepted → (o ≡ Accepted) × ((settled o).stars ≡ words)
-    settled-accepted Accepted e = (refl, oriented-accepted words a e)
-    settled-accepted (Refused r) e = contradiction (cc)
+    settled-accepted : (o : Result Unit Refusal) → (settled o).outcome ≡ Ok tt → (o ≡ Ok tt) × ((settled o).stars ≡ words)
+    settled-accepted (Ok _) e = (refl, oriented-accepted words a e)
+    settled-accepted (Err r) e = contradiction (cc)
 
-    settled-refused : (number_at a ≡ number.no_fit → ⊥) → (o : Outcome) → (settled o).outcome ≡ refusal_of number.no_fit 0 → accepted o ≡ false
+    settled-refused : (number_at a ≡ number.no_fit → ⊥) → (o : Result Unit Refusal) → (settled o).outcome ≡ refusal_of number.no_fit 0 → accepted o ≡ false
     unfolding number_in
-    settled-refused never Accepted e = absurd (never (sym (oriented-number words a) ∙ ap number_in e))
-    settled-refused never (Refused r) e = refl
+    settled-refused never (Ok _) e = absurd (never (sym (oriented-number words a) ∙ ap number_in e))
+    settled-refused never (Err r) e = refl
 
   module _ (found : Identification) (t : Tracked) (e : t ≡ settled_of report directions bytes found) (g : Ranking) (F : List ℕ → Type 0)
       (first : FirstOf g F (accepted found.outcome) found.stars) where
-    pub settled-named : t.outcome ≡ Accepted → FirstOf g F true t.stars
+    pub settled-named : t.outcome ≡ Ok tt → FirstOf g F true t.stars
     unfolding settled_of
     settled-named h =
         let p = settled-accepted found.stars (orientation_of directions (stars_of bytes) found.stars) found.outcome

@@ -3,14 +3,14 @@ use Rattle.std.specs.Prelude.{List, [], ◌∷◌, ℕ, ◌≤◌, ℤ, pos, get
 use Rattle.vectors.specs.declared.Vec3.{Vec3}
 use Rattle.frame_centroid.specs.declared.Centroid.{Centroid}
 use Rattle.chain.specs.declared.Settings.{Settings}
-use Rattle.camera_direction.specs.declared.Direction.{Direction}
-use Rattle.camera_direction.specs.declared.Direction.TheVariants.{Refused, Found}
 use Rattle.camera_direction.specs.camera.Camera.{direction_of}
+use Rattle.std.specs.Prelude.{Result, Ok, Err}
+use Rattle.refusal.specs.declared.Refusal.{Refusal}
 
 -- the vector of a direction that was found
-abbrev pub vector_of : Direction → Vec3
-vector_of (Refused r) = record { x = pos 0; y = pos 0; z = pos 0 }
-vector_of (Found v) = v
+abbrev pub vector_of : Result Vec3 Refusal → Vec3
+vector_of (Err r) = record { x = pos 0; y = pos 0; z = pos 0 }
+vector_of (Ok v) = v
 
 unfoldable pub sight_of : Settings → Centroid → Vec3
 sight_of s star = vector_of (direction_of s.cx s.cy s.lens (pos star.x) (pos star.y))

@@ -3,7 +3,7 @@ use Rattle.std.specs.Prelude.{◌≡◌, ℤ, pos, length, get_or, take, set, re
 use Rattle.std.proofs.Math.Path.{refl, ap}
 use Rattle.std.proofs.Common.{sym, ◌∙◌, arith, add-one, length-append, take-suc, length-take-le}
 use mathlib.Core.List.{List, [], ◌∷◌, ◌++◌, append_assoc}
-use Prim.Native.Nat.{ℕ, zero, suc, ◌+◌, ◌*◌, ◌-◌, ◌≤◌, ◌<◌, zero-le}
+use Prim.Native.Nat.{ℕ, zero, suc, ◌+◌, ◌*◌, ◌-◌, ◌<◌, zero-le}
 use Rattle.std.proofs.lemmas.List.{set_at}
 use Rattle.std.proofs.Math.Seq.{append_snoc}
 use Rattle.numbers.specs.Within.{Within}
@@ -12,20 +12,20 @@ use Rattle.vectors.specs.Vectors.{Within3}
 use Rattle.vectors.specs.Triples.{AllWithin}
 use Rattle.frame_centroid.specs.declared.Centroid.{Centroid}
 use Rattle.chain.specs.declared.Settings.{Settings}
-use Rattle.camera_direction.specs.declared.Direction.{Direction}
-use Rattle.camera_direction.specs.declared.Direction.TheVariants.{Refused, Found}
 use Rattle.camera_direction.specs.camera.Camera.{direction_of}
 use Rattle.camera_direction.proofs.camera.Laws.{found_within}
 use Rattle.chain.specs.Sight.{vector_of, sight_of, numbers_of, directions_of, nowhere}
+use Rattle.std.specs.Prelude.{Result, Ok, Err}
+use Rattle.refusal.specs.declared.Refusal.{Refusal}
 
 module _ (s : Settings) where
   pub sight-within : (star : Centroid) → Within3 1000000000 (sight_of s star)
   unfolding sight_of
   sight-within star = by (direction_of s.cx s.cy s.lens (pos star.x) (pos star.y)) refl
     where
-      by : (d : Direction) → direction_of s.cx s.cy s.lens (pos star.x) (pos star.y) ≡ d → Within3 1000000000 (vector_of d)
-      by (Refused r) e = record { x = record { within = zero-le }; y = record { within = zero-le }; z = record { within = zero-le } }
-      by (Found v) e = found_within s.cx s.cy s.lens (pos star.x) (pos star.y) v e
+      by : (d : Result Vec3 Refusal) → direction_of s.cx s.cy s.lens (pos star.x) (pos star.y) ≡ d → Within3 1000000000 (vector_of d)
+      by (Err r) e = record { x = record { within = zero-le }; y = record { within = zero-le }; z = record { within = zero-le } }
+      by (Ok v) e = found_within s.cx s.cy s.lens (pos star.x) (pos star.y) v e
 
   pub directions-length : (stars : List Centroid) → length (directions_of s stars) ≡ 3 * length stars
   unfolding directions_of

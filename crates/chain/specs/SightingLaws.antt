@@ -3,19 +3,14 @@ use Rattle.std.specs.Prelude.{◌≡◌, refl, List, ℕ, ◌*◌, ◌≤◌, �
 use Rattle.std.proofs.Common.{sym, ◌∙◌, subst, arith, length-take-le}
 use Rattle.std.proofs.Math.Path.{ap}
 use Rattle.refusal.specs.declared.Refusal.{Refusal}
-use Rattle.refusal.specs.declared.Outcome.{Outcome}
-use Rattle.refusal.specs.declared.Outcome.TheVariants.{Accepted, Refused}
-use Rattle.refusal.specs.Table.{first_applying, answered}
 use Rattle.frame_list.specs.declared.Report.{Report}
-use Rattle.catalogue.specs.Check as catalogue
 use Rattle.chain.specs.declared.Settings.{Settings}
 use Rattle.chain.specs.declared.sight.Sighting.{Sighting}
-use Rattle.chain.specs.Chain.{Call, listed, sights_of, refusals_of, ranked_room, room_after}
-use Rattle.chain.specs.Sighting.{padded_sights, sighting_of, sighted}
-use Rattle.chain.specs.Ready.{Ready, RankingStands}
-use Rattle.chain.specs.AdmitLaws.{refusals-joined}
+use Rattle.chain.specs.Chain.{sights_of}
+use Rattle.chain.specs.Sighting.{padded_sights, sighting_of}
 use Rattle.chain.specs.ChainLaws.{sights-array, sights-front}
 use Rattle.chain.specs.ReadyLaws.{listing-sighted}
+use Rattle.std.specs.Prelude.{Result}
 
 -- the part of the array that is lent: three numbers for each listed star
 pub record Lent (report : Report) (directions : List ℤ) (bytes : List ℕ) (s : Settings) : Type 0 where
@@ -36,7 +31,7 @@ padded-lent report directions bytes s few size e =
       front = ap (take (3 * report.count)) e ∙ sights-front report bytes s few size;
     }
 
-pub sighting-lent : (samples : List ℕ) (stars : Outcome) (s : Settings) (words : ℕ) (bytes : List ℕ) (r : Sighting) → r ≡ sighting_of samples stars s words
+pub sighting-lent : (samples : List ℕ) (stars : Result Unit Refusal) (s : Settings) (words : ℕ) (bytes : List ℕ) (r : Sighting) → r ≡ sighting_of samples stars s words
     → Lent r.report r.directions bytes s
 sighting-lent samples stars s words bytes r e =
     let v = listing-sighted samples s.width s.height s.threshold in

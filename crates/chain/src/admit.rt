@@ -9,13 +9,14 @@ ghost use Rattle.chain.specs.Admit.{catalogue_answer, admit_answer};
 
 use crate::Settings;
 use camera_direction::settings::position_ok;
-use refusal::{Counted, Outcome};
+use refusal::Refusal;
 
 // The words that the room must have, for 8 directions and 512 stars.
 const ROOM: usize = 4096;
 
 // 19, and then 5.
-fn settings_outcome(settings: Settings) -> Outcome
+#[tactic(auto, unfolding(refusal::specs::Table::first_applying, crate::specs::Chain::settings_rows))]
+fn settings_outcome(settings: Settings) -> Result<(), Refusal>
     ensures { result ≡ first_applying (settings_rows settings) }
 {
     let lens = settings.lens;
@@ -25,22 +26,22 @@ fn settings_outcome(settings: Settings) -> Outcome
     if !position_ok(settings.cx, settings.cy) {
         return refusal::plain(refusal::SETTINGS);
     }
-    Outcome::Accepted
+    Ok(())
 }
 
 // 6 and 7.
-pub fn catalogue_outcome(bytes: &[u8]) -> Outcome
+#[tactic(auto, using(crate::proofs::Catalogue::refused_as, crate::proofs::Catalogue::accepted_as, crate::proofs::Catalogue::told_as))]
+pub fn catalogue_outcome(bytes: &[u8]) -> Result<(), Refusal>
     ensures value { result ≡ first_applying (refusals_of bytes.now) }
     ensures result_value { answer_of result ≡ catalogue_answer bytes.now }
 {
-    match catalogue::check(bytes) {
-        Counted::Refused(r) => Outcome::Refused(r),
-        Counted::Count(_) => Outcome::Accepted,
-    }
+    catalogue::check(bytes)?;
+    Ok(())
 }
 
 // 9, 10 and 12, for a room of so many words and so many listed stars.
-fn demand_outcome(settings: Settings, words: usize, count: usize) -> Outcome
+#[tactic(auto, unfolding(refusal::specs::Table::first_applying, crate::specs::Chain::demand_rows))]
+fn demand_outcome(settings: Settings, words: usize, count: usize) -> Result<(), Refusal>
     ensures { result ≡ first_applying (demand_rows settings words count) }
 {
     let needed = settings.needed;
@@ -54,22 +55,22 @@ fn demand_outcome(settings: Settings, words: usize, count: usize) -> Outcome
     if is_few {
         return refusal::plain(refusal::FEW);
     }
-    Outcome::Accepted
+    Ok(())
 }
 
 // The frame's own outcome comes first, and that of the stars, 6 and 7, before the demand's.
 pub fn outcome(
-    frame: Outcome,
-    stars: Outcome,
+    frame: Result<(), Refusal>,
+    stars: Result<(), Refusal>,
     count: usize,
     settings: Settings,
     words: usize,
-) -> Outcome
+) -> Result<(), Refusal>
     ensures value { result ≡ otherwise frame (otherwise (first_applying (settings_rows settings)) (otherwise stars (first_applying (demand_rows settings words count)))) }
     ensures result_value { answer_of result ≡ admit_answer frame stars settings words count }
 {
-    let demand = demand_outcome(settings, words, count);
-    let catalogue = refusal::otherwise(stars, demand);
-    let camera = refusal::otherwise(settings_outcome(settings), catalogue);
-    refusal::otherwise(frame, camera)
+    frame?;
+    settings_outcome(settings)?;
+    stars?;
+    demand_outcome(settings, words, count)
 }

@@ -14,7 +14,7 @@ use attitude::Matrix;
 use camera_lens::Lens;
 use frame_centroid::Centroid;
 use frame_list::Report;
-use refusal::{Outcome, Refusal};
+use refusal::Refusal;
 use search::Identification;
 use vectors::Vec3;
 
@@ -34,9 +34,10 @@ pub struct Settings {
 
 // What the chain answers: the frame's list and counts, the star of each listed direction, and the matrix that carries sky to camera. Where the call
 // is refused, all of them are zeros.
+// Stays: the outcome beside them and no Result. `Tracks` and the laws over `tracked_of` say what they then are, and the edit refused_with_a_count tries it.
 #[derive(Clone, Copy)]
 pub struct Tracked {
-    pub outcome: Outcome,
+    pub outcome: Result<(), Refusal>,
     pub report: Report,
     pub stars: [u16; 8],
     pub matrix: Matrix,
@@ -65,7 +66,7 @@ pub fn refused(refusal: Refusal) -> Tracked
         row2: zeros,
     };
     Tracked {
-        outcome: Outcome::Refused(refusal),
+        outcome: Err(refusal),
         report,
         stars: [0u16; 8],
         matrix,
@@ -79,15 +80,10 @@ pub fn track(samples: &[u16], catalogue: &[u8], settings: Settings, room: &mut [
     ensures tracks { Tracks (call samples.now catalogue.now settings room.old) result }
 {
     let sighting = locate::ranked(samples, catalogue, settings, room);
-    let outcome = sighting.outcome;
     let report = sighting.report;
-    let directions = sighting.directions;
-    let end = 3 * report.count;
-    match outcome {
-        Outcome::Refused(r) => refused(r),
-        Outcome::Accepted => {
-            locate::identified(report, &directions[..end], catalogue, settings, room)
-        }
+    match sighting.outcome {
+        Err(r) => refused(r),
+        Ok(()) => locate::identified(report, sighting.sights(), catalogue, settings, room),
     }
 }
 

@@ -6,12 +6,12 @@ ghost use Rattle.chain.specs.Ready.{Settles, RankingStands, Names};
 
 use crate::sight::Sighting;
 use crate::{Settings, Tracked, admit, refused, sight};
-use attitude::{Attitude, orient};
+use attitude::orient;
 use frame_list::Report;
-use refusal::Outcome;
 use search::Identification;
 
-// The attitude of what the search found, or the refusal.
+// The attitude of what the search found, or the refusal. A call of its own, so that its stars take no stack beside the search's.
+#[inline(never)]
 fn settle(report: Report, directions: &[i32], bytes: &[u8], found: Identification) -> Tracked
     requires { Settles directions.now bytes.now found }
     ensures { result ≡ settled_of report directions.now bytes.now found }
@@ -19,13 +19,13 @@ fn settle(report: Report, directions: &[i32], bytes: &[u8], found: Identificatio
     let outcome = found.outcome;
     let words = found.stars;
     match outcome {
-        Outcome::Refused(r) => refused(r),
-        Outcome::Accepted => {
+        Err(r) => refused(r),
+        Ok(()) => {
             let numbers = catalogue::stars(bytes);
             let end = 3 * catalogue::records(bytes);
             match orient::attitude_of(directions, &numbers[..end], words) {
-                Attitude::Refused(r) => refused(r),
-                Attitude::Found(matrix) => Tracked {
+                Err(r) => refused(r),
+                Ok(matrix) => Tracked {
                     outcome,
                     report,
                     stars: words,
@@ -48,11 +48,14 @@ pub fn identified(
     ensures value { result ≡ located_of report bytes.now settings }
     ensures names { Names report bytes.now settings result }
 {
-    let count = report.count;
-    let needed = settings.needed;
-    let tolerance = settings.tolerance;
-    let words = count * catalogue::records(bytes);
-    let found = search::search(directions, bytes, needed, tolerance, &room[..words]);
+    let words = report.count * catalogue::records(bytes);
+    let found = search::search(
+        directions,
+        bytes,
+        settings.needed,
+        settings.tolerance,
+        &room[..words],
+    );
     settle(report, directions, bytes, found)
 }
 
@@ -69,14 +72,10 @@ pub(crate) fn ranked(
     let words = room.len();
     let stars = admit::catalogue_outcome(catalogue);
     let sighting = sight::take_sights(samples, stars, settings, words);
-    let outcome = sighting.outcome;
-    let directions = sighting.directions;
-    let report = sighting.report;
-    let end = 3 * report.count;
-    match outcome {
-        Outcome::Refused(_) => sighting,
-        Outcome::Accepted => {
-            ranking::rank(&directions[..end], catalogue, settings.tolerance, room);
+    match sighting.outcome {
+        Err(_) => sighting,
+        Ok(()) => {
+            let _ = ranking::rank(sighting.sights(), catalogue, settings.tolerance, room);
             sighting
         }
     }

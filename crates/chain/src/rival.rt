@@ -6,7 +6,6 @@ ghost use Rattle.chain.specs.rival.Chain.{our_contest, contested_of};
 
 use crate::{Settings, locate};
 use frame_list::Report;
-use refusal::Outcome;
 use search_rival::Contest;
 
 // The search's answer and its rivals, over the ranking at the front of the room.
@@ -20,11 +19,14 @@ fn contested(
     requires { RankingStands report directions.now bytes.now settings room.now }
     ensures { result ≡ our_contest report bytes.now settings }
 {
-    let count = report.count;
-    let needed = settings.needed;
-    let tolerance = settings.tolerance;
-    let words = count * catalogue::records(bytes);
-    search_rival::rival(directions, bytes, needed, tolerance, &room[..words])
+    let words = report.count * catalogue::records(bytes);
+    search_rival::rival(
+        directions,
+        bytes,
+        settings.needed,
+        settings.tolerance,
+        &room[..words],
+    )
 }
 
 // Whether the chain's identification is alone, or the first of its rivals. Refused as the chain is, up to 13; the room takes the ranking.
@@ -33,16 +35,13 @@ pub fn contest(samples: &[u16], catalogue: &[u8], settings: Settings, room: &mut
     ensures room_after { room.new ≡ room_after (call samples.now catalogue.now settings room.old) }
 {
     let sighting = locate::ranked(samples, catalogue, settings, room);
-    let outcome = sighting.outcome;
     let report = sighting.report;
-    let directions = sighting.directions;
-    let end = 3 * report.count;
-    match outcome {
-        Outcome::Refused(r) => Contest {
-            outcome: Outcome::Refused(r),
+    match sighting.outcome {
+        Err(r) => Contest {
+            outcome: Err(r),
             rival: false,
             stars: [0u16; 8],
         },
-        Outcome::Accepted => contested(report, &directions[..end], catalogue, settings, room),
+        Ok(()) => contested(report, sighting.sights(), catalogue, settings, room),
     }
 }

@@ -1,52 +1,28 @@
 -- What a burst is for: each record is that of the single call on its frame, whatever its neighbours hold, and reading it gives back number, place and
 -- matrix; what is behind the records stays; a refused burst and an empty one write nothing. Assumes nothing.
-use Rattle.std.specs.Prelude.{false, ◌≡◌, refl, List, [], ◌∷◌, ◌++◌, ℕ, zero, suc, ◌+◌, ◌*◌, ◌/◌, ◌%◌, ◌≤◌, ◌<◌, ℤ, pos, length, get_or, take}
-use Rattle.std.proofs.Common.{sym, ◌∙◌, append_assoc, not-suc-le-zero, arith, lit<, length-append, take_at, drop_at, get_or-take, get_or-drop, SFits}
+use Rattle.std.specs.Prelude.{false, ◌≡◌, List, [], ◌∷◌, ◌++◌, ℕ, zero, suc, ◌+◌, ◌*◌, ◌/◌, ◌%◌, ◌<◌, length, get_or, take}
+use Rattle.std.proofs.Common.{sym, ◌∙◌, append_assoc, not-suc-le-zero, arith, take_at, drop_at}
 use Rattle.std.proofs.Math.Path.{ap}
 use Rattle.std.proofs.Math.Decide.{dec_lt}
 use Rattle.std.proofs.Math.Nat.{zero-div, zero-mod}
 use Rattle.std.proofs.Math.ListN.{drop, get_or-append}
 use Rattle.std.proofs.Math.Seq.{drop-append-add}
 use Rattle.std.proofs.lemmas.List.{get_or_at}
-use Rattle.std.specs.Int.{w64}
-use Rattle.refusal.specs.declared.Refusal.{Refusal}
-use Rattle.refusal.specs.declared.Outcome.{Outcome}
-use Rattle.refusal.specs.declared.Outcome.TheVariants as outcome
-use Rattle.refusal.specs.Table.{first_applying, answered}
-use Rattle.numbers.specs.Within.{Within, within-fits}
-use Rattle.attitude.specs.declared.Matrix.{Matrix}
-use Rattle.attitude.specs.Attitude.{entries_of}
-use Rattle.attitude.specs.Entries.{MatrixWithin}
+use Rattle.refusal.specs.Table.{first_applying}
 use Rattle.frame_list.specs.input.Input.{size_out}
-use Rattle.chain_burst.specs.records.Record.{record_size, record_of, encoded, decoded, AllSigned, Holds}
+use Rattle.chain_burst.specs.records.Record.{record_size, record_of, decoded}
 use Rattle.chain_burst.proofs.records.Laws.{decoded-encoded}
 use Rattle.chain.specs.declared.Settings.{Settings}
 use Rattle.chain.specs.declared.Tracked.{Tracked}
 use Rattle.chain.specs.Chain as chain
 use Rattle.chain.specs.Chain.{tracked_of}
 use Rattle.chain.specs.RoomLaws.{any-room}
-use Rattle.chain.specs.BoundLaws.{Low, tracked-within}
-use Rattle.chain.proofs.BoundLaws.{tracked-low}
-use Rattle.refusal.specs.declared.Counted.TheVariants.{Refused, Count}
-use Rattle.chain_burst.specs.Burst.{
-  frame_at,
-  frames_of,
-  record_bytes,
-  records_of,
-  room_behind,
-  Call,
-  size_of,
-  frames_in,
-  frames,
-  refusals_of,
-  burst_of,
-  records_after,
-  room_after,
-}
+use Rattle.chain_burst.specs.Burst.{frame_at, frames_of, record_bytes, records_of, room_behind, Call, size_of, frames_in, frames, refusals_of, burst_of, records_after, room_after}
 use Rattle.chain_burst.specs.OneMore.{frames-length, bytes-length}
 use Rattle.chain_burst.proofs.OneMore.{records-length}
 use Rattle.chain_burst.specs.Admit.{none-refused}
 use Rattle.chain_burst.specs.Laws.{tracked-holds}
+use Rattle.std.specs.Prelude.{Ok}
 
 frame-of : (size : ℕ) (samples : List ℕ) (n k : ℕ) → k < n → get_or (frames_of size samples n) k [] ≡ frame_at size samples k
 unfolding frames_of
@@ -81,8 +57,8 @@ record_of_lem catalogue s (f ∷ fs) room rest (suc k) h =
     ∙ ap (take record_size) (drop-append-add b l (record_size * k))
     ∙ record_of_lem catalogue s fs room rest k (omega arith)
 
-module _ (c : Call) (h : first_applying (refusals_of c) ≡ outcome.Accepted) where
-  pub accepted-answer : burst_of c ≡ Count (frames_in c)
+module _ (c : Call) (h : first_applying (refusals_of c) ≡ Ok tt) where
+  pub accepted-answer : burst_of c ≡ Ok (frames_in c)
   unfolding burst_of
   accepted-answer = rw h
 
@@ -125,12 +101,12 @@ module _ (c : Call) (e : size_out c.settings.width c.settings.height ≡ false) 
   no-rest : length c.samples % size_of c ≡ 0
   no-rest = ap (λ (n : ℕ). n % size_of c) none ∙ zero-mod (size_of c)
 
-  pub empty-accepted : first_applying (refusals_of c) ≡ outcome.Accepted
+  pub empty-accepted : first_applying (refusals_of c) ≡ Ok tt
   empty-accepted = none-refused c.settings.width c.settings.height (length c.samples) (length c.records) e no-rest (omega arith)
       (omega (arith, no_frames))
 
-  pub empty-answer : burst_of c ≡ Count 0
-  empty-answer = accepted-answer c empty-accepted ∙ ap Count no_frames
+  pub empty-answer : burst_of c ≡ Ok 0
+  empty-answer = accepted-answer c empty-accepted ∙ ap Ok no_frames
 
   pub empty-records : records_after c ≡ c.records
   unfolding frames_of records_of

@@ -3,15 +3,13 @@ use Rattle.std.specs.Prelude.{◌≡◌}
 use Rattle.std.proofs.Math.Path.{refl, sym, ap}
 use Rattle.std.proofs.Common.{◌∙◌, add-one, length-drop, take_at, drop-drop}
 use mathlib.Core.List.{List, [], ◌∷◌, ◌++◌, append_assoc, append-nil}
-use Prim.Native.Nat.{ℕ, zero, suc, ◌+◌, ◌*◌, ◌≤◌}
+use Prim.Native.Nat.{ℕ, suc, ◌+◌, ◌*◌, ◌≤◌}
 use native.Mathlib.Omega.{arith}
 use Rattle.std.proofs.Math.ListN.{length, drop, length-append}
 use Rattle.std.proofs.Math.Seq.{sets, drop-append-add}
 use Rattle.std.proofs.lemmas.List.Edits.{sets-eq}
-use Rattle.chain_burst.specs.records.Record.{record_size, record_of}
-use Rattle.chain_burst.specs.records.Laws.{encoded-length}
+use Rattle.chain_burst.specs.records.Record.{record_size}
 use Rattle.chain.specs.declared.Settings.{Settings}
-use Rattle.chain.specs.declared.Tracked.{Tracked}
 use Rattle.chain.specs.Chain as chain
 use Rattle.chain.specs.Chain.{tracked_of}
 use Rattle.chain.specs.RoomLaws as chain-room

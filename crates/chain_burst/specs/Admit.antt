@@ -1,9 +1,8 @@
 -- The refusals of a whole burst, one row at a time, and what a burst that has none is. Assumes nothing.
-use Rattle.std.specs.Prelude.{Bool, true, false, not, ◌||◌, ◌≡◌, refl, List, ℕ, suc, ◌+◌, ◌*◌, ◌/◌, ◌%◌, ◌≤◌, ◌<◌, eqb, ltb, length}
-use Rattle.std.proofs.Common.{sym, ap, ◌∙◌, le_refl, suc-mul, mul_comm, mul-le-mul, arith}
+use Rattle.std.specs.Prelude.{Bool, true, false, not, ◌||◌, ◌≡◌, refl, ℕ, suc, ◌+◌, ◌*◌, ◌/◌, ◌%◌, ◌≤◌, ◌<◌, eqb, ltb}
+use Rattle.std.proofs.Common.{le_refl, suc-mul, mul_comm, mul-le-mul, arith}
 use Rattle.std.proofs.Math.Nat.{div-add-mod', div-le_of_le-mul}
-use borrow.Author.Tests.{not-false, ltb-false, eqb-true, lt-ltb, le-ltb, eq-eqb, ne_eqb}
-use Rattle.refusal.specs.declared.Outcome.TheVariants.{Accepted}
+use borrow.Author.Tests.{ltb-false, eqb-true, lt-ltb, le-ltb, eq-eqb, ne_eqb}
 use Rattle.refusal.specs.Numbers as number
 use Rattle.refusal.specs.Table.{refusal_of, first_applying}
 use Rattle.refusal.specs.Laws.{Silent}
@@ -14,7 +13,8 @@ use Rattle.refusal.proofs.CountedLaws.{count_by}
 use Rattle.frame_list.specs.input.Input.{size_out}
 use Rattle.frame_list.specs.input.InputLaws.{size-says}
 use Rattle.chain_burst.specs.records.Record.{record_size}
-use Rattle.chain_burst.specs.Burst.{Call, most_frames, length_out, burst_rows, frames_in, refusals_of, burst_of, answer_for}
+use Rattle.chain_burst.specs.Burst.{Call, most_frames, burst_rows, frames_in, refusals_of, burst_of, answer_for}
+use Rattle.std.specs.Prelude.{Ok}
 
 -- so many whole frames are the samples, and the room has room for their records
 pub record Whole (size count samples records : ℕ) : Type 0 where
@@ -58,7 +58,7 @@ module _ (width height samples records : ℕ) where
       unfolding burst_rows first_applying
       room-refused r = rw (e, eq-eqb (samples % size) 0 h, le-ltb (most_frames * size) samples k, lt-ltb records (record_size * (samples / size)) r)
 
-      pub none-refused : record_size * (samples / size) ≤ records → first_applying (burst_rows width height samples records) ≡ Accepted
+      pub none-refused : record_size * (samples / size) ≤ records → first_applying (burst_rows width height samples records) ≡ Ok tt
       unfolding burst_rows first_applying
       none-refused r = rw (e, eq-eqb (samples % size) 0 h, le-ltb (most_frames * size) samples k, le-ltb records (record_size * (samples / size)) r)
 
@@ -67,7 +67,7 @@ module _ (width height samples records : ℕ) where
   length-says false b h = let z : ◌≡◌ {A = Bool} true false = h in (cc, cc)
 
   -- an accepted burst has sides in range and whole frames, at most 64, and its room is long enough
-  module _ (h : first_applying (burst_rows width height samples records) ≡ Accepted) where
+  module _ (h : first_applying (burst_rows width height samples records) ≡ Ok tt) where
     pub accepted-size : size_out width height ≡ false
     unfolding burst_rows Silent
     accepted-size = (accepted-silent (burst_rows width height samples records) h).0

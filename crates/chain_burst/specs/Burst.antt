@@ -9,8 +9,9 @@ use Rattle.chain.specs.declared.Settings.{Settings}
 use Rattle.chain.specs.declared.Tracked.{Tracked}
 use Rattle.chain.specs.Chain as chain
 use Rattle.chain.specs.Chain.{tracked_of}
-use Rattle.refusal.specs.declared.Counted.{Counted}
 use Rattle.refusal.specs.Counted.{counted_of}
+use Rattle.std.specs.Prelude.{Result}
+use Rattle.refusal.specs.declared.Refusal.{Refusal}
 
 -- ---- the frames of a slice
 
@@ -81,7 +82,7 @@ abbrev pub refusals_of : Call → List Row
 refusals_of c = burst_rows c.settings.width c.settings.height (length c.samples) (length c.records)
 
 -- the number of records, or the refusal
-unfoldable pub burst_of : Call → Counted
+unfoldable pub burst_of : Call → Result ℕ Refusal
 burst_of c = counted_of (frames_in c) (first_applying (refusals_of c))
 
 -- ---- in document 01's own terms

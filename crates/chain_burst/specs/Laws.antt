@@ -1,49 +1,22 @@
 -- What a burst is for: each record is that of the single call on its frame, whatever its neighbours hold, and reading it gives back number, place and
 -- matrix; what is behind the records stays; a refused burst and an empty one write nothing. Assumes nothing.
-use Rattle.std.specs.Prelude.{false, ◌≡◌, refl, List, [], ◌∷◌, ◌++◌, ℕ, zero, suc, ◌+◌, ◌*◌, ◌/◌, ◌%◌, ◌≤◌, ◌<◌, ℤ, pos, length, get_or, take}
-use Rattle.std.proofs.Common.{sym, ◌∙◌, append_assoc, not-suc-le-zero, arith, lit<, length-append, take_at, drop_at, get_or-take, get_or-drop, SFits}
-use Rattle.std.proofs.Math.Path.{ap}
-use Rattle.std.proofs.Math.Decide.{dec_lt}
-use Rattle.std.proofs.Math.Nat.{zero-div, zero-mod}
-use Rattle.std.proofs.Math.ListN.{drop, get_or-append}
-use Rattle.std.proofs.Math.Seq.{drop-append-add}
-use Rattle.std.proofs.lemmas.List.{get_or_at}
+use Rattle.std.specs.Prelude.{◌≡◌, List, ℕ, ◌+◌, ◌*◌, ◌<◌, ℤ, pos, get_or}
+use Rattle.std.proofs.Common.{◌∙◌, arith, lit<, get_or-take, get_or-drop, SFits}
+use Rattle.std.proofs.Math.ListN.{drop}
 use Rattle.std.specs.Int.{w64}
 use Rattle.refusal.specs.declared.Refusal.{Refusal}
-use Rattle.refusal.specs.declared.Outcome.{Outcome}
-use Rattle.refusal.specs.declared.Outcome.TheVariants as outcome
-use Rattle.refusal.specs.Table.{first_applying, answered}
+use Rattle.refusal.specs.Table.{first_applying}
 use Rattle.numbers.specs.Within.{Within, within-fits}
 use Rattle.attitude.specs.declared.Matrix.{Matrix}
 use Rattle.attitude.specs.Attitude.{entries_of}
 use Rattle.attitude.specs.Entries.{MatrixWithin}
-use Rattle.frame_list.specs.input.Input.{size_out}
-use Rattle.chain_burst.specs.records.Record.{record_size, record_of, encoded, decoded, AllSigned, Holds}
-use Rattle.chain.specs.declared.Settings.{Settings}
-use Rattle.chain.specs.declared.Tracked.{Tracked}
+use Rattle.chain_burst.specs.records.Record.{record_of, AllSigned, Holds}
 use Rattle.chain.specs.Chain as chain
 use Rattle.chain.specs.Chain.{tracked_of}
-use Rattle.chain.specs.RoomLaws.{any-room}
 use Rattle.chain.specs.BoundLaws.{Low, tracked-within}
 use Rattle.chain.proofs.BoundLaws.{tracked-low}
-use Rattle.refusal.specs.declared.Counted.TheVariants.{Refused, Count}
-use Rattle.chain_burst.specs.Burst.{
-  frame_at,
-  frames_of,
-  record_bytes,
-  records_of,
-  room_behind,
-  Call,
-  size_of,
-  frames_in,
-  frames,
-  refusals_of,
-  burst_of,
-  records_after,
-  room_after,
-}
-use Rattle.chain_burst.specs.OneMore.{frames-length, bytes-length}
-use Rattle.chain_burst.specs.Admit.{none-refused}
+use Rattle.chain_burst.specs.Burst.{frame_at, Call, refusals_of, burst_of, records_after, room_after}
+use Rattle.std.specs.Prelude.{Result, Ok, Err}
 
 -- ---- frames
 
@@ -80,10 +53,10 @@ matrix-signed m h = (
 )
 
 -- so that a record holds each answer of the chain
-holds_by : (o : Outcome) (m : Matrix) → Low o → MatrixWithin 6000000000 m → Holds (record_of o m)
+holds_by : (o : Result Unit Refusal) (m : Matrix) → Low o → MatrixWithin 6000000000 m → Holds (record_of o m)
 unfolding AllSigned
-holds_by outcome.Accepted m l h = record { number = omega arith; place = omega arith; entries = matrix-signed m h }
-holds_by (outcome.Refused r) m l h =
+holds_by (Ok _) m l h = record { number = omega arith; place = omega arith; entries = matrix-signed m h }
+holds_by (Err r) m l h =
     let z : SFits w64 (pos 0) = record { sfits = lit< tt } in
     record { number = omega (arith, l.number); place = omega (arith, l.place); entries = (z, (z, (z, (z, (z, (z, (z, (z, (z, tt))))))))) }
 
@@ -94,8 +67,8 @@ tracked-holds c = holds_by (tracked_of c).outcome (tracked_of c).matrix (tracked
 
 -- ---- a refused burst
 
-module _ (c : Call) (q : Refusal) (h : first_applying (refusals_of c) ≡ outcome.Refused q) where
-  pub refused-answer : burst_of c ≡ Refused q
+module _ (c : Call) (q : Refusal) (h : first_applying (refusals_of c) ≡ Err q) where
+  pub refused-answer : burst_of c ≡ Err q
   unfolding burst_of
   refused-answer = rw h
 

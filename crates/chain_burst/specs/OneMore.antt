@@ -1,20 +1,14 @@
 -- The step from one frame of a burst to the next, shown once, for any frames and one more. Assumes nothing.
 use Rattle.std.specs.Prelude.{◌≡◌}
-use Rattle.std.proofs.Math.Path.{refl, sym, ap}
-use Rattle.std.proofs.Common.{◌∙◌, add-one, length-drop, take_at, drop-drop}
-use mathlib.Core.List.{List, [], ◌∷◌, ◌++◌, append_assoc, append-nil}
-use Prim.Native.Nat.{ℕ, zero, suc, ◌+◌, ◌*◌, ◌≤◌}
+use Rattle.std.proofs.Math.Path.{refl}
+use mathlib.Core.List.{List, [], ◌∷◌}
+use Prim.Native.Nat.{ℕ, zero, suc}
 use native.Mathlib.Omega.{arith}
-use Rattle.std.proofs.Math.ListN.{length, drop, length-append}
-use Rattle.std.proofs.Math.Seq.{sets, drop-append-add}
-use Rattle.std.proofs.lemmas.List.Edits.{sets-eq}
+use Rattle.std.proofs.Math.ListN.{length, length-append}
 use Rattle.chain_burst.specs.records.Record.{record_size, record_of}
 use Rattle.chain_burst.specs.records.Laws.{encoded-length}
-use Rattle.chain.specs.declared.Settings.{Settings}
 use Rattle.chain.specs.declared.Tracked.{Tracked}
-use Rattle.chain.specs.Chain as chain
-use Rattle.chain.specs.Chain.{tracked_of}
-use Rattle.chain_burst.specs.Burst.{frame_at, frames_of, record_bytes, records_of, room_behind}
+use Rattle.chain_burst.specs.Burst.{frame_at, frames_of, record_bytes}
 
 pub bytes-length : (t : Tracked) → length (record_bytes t) ≡ record_size
 bytes-length t = encoded-length (record_of t.outcome t.matrix)

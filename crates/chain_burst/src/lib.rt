@@ -13,13 +13,14 @@ ghost use Rattle.chain_burst.specs.Admit.{Whole};
 use crate::records::RECORD_SIZE;
 use chain::Settings;
 use frame_list::input;
-use refusal::{Counted, Outcome};
+use refusal::Refusal;
 
 // How many frames a burst may have.
 const MOST_FRAMES: usize = 64;
 
 // 1, 2 and 18, for so many samples and a room of so many bytes.
-fn outcome(width: usize, height: usize, samples: usize, records: usize) -> Outcome
+#[tactic(auto, unfolding(refusal::specs::Table::first_applying, crate::specs::Burst::burst_rows))]
+fn outcome(width: usize, height: usize, samples: usize, records: usize) -> Result<(), Refusal>
     ensures { result ≡ first_applying (burst_rows width height samples records) }
 {
     if !input::size_ok(width, height) {
@@ -36,7 +37,7 @@ fn outcome(width: usize, height: usize, samples: usize, records: usize) -> Outco
     if records < RECORD_SIZE * (samples / size) {
         return refusal::plain(refusal::RECORDS_ROOM);
     }
-    Outcome::Accepted
+    Ok(())
 }
 
 // One frame after the other through the chain. A frame is lent as a part of the slice, and its refusal goes into its own record.
@@ -54,15 +55,10 @@ fn track_frames(
     ensures records_after { records.new ≡ records_of catalogue.now settings (frames_of size samples.now count) room.old
         ++ drop (record_size * count) records.old }
 {
-    let mut k: usize = 0;
-    while k < count {
+    for k in 0..count {
         let from = k * size;
-        let end = from + size;
-        let tracked = chain::track(&samples[from..end], catalogue, settings, room);
-        let outcome = tracked.outcome;
-        let matrix = tracked.matrix;
-        records::put(records, RECORD_SIZE * k, outcome, matrix);
-        k += 1;
+        let tracked = chain::track(&samples[from..from + size], catalogue, settings, room);
+        records::put(records, RECORD_SIZE * k, tracked.outcome, tracked.matrix);
     }
 }
 
@@ -73,7 +69,7 @@ pub fn track(
     settings: Settings,
     room: &mut [u16],
     records: &mut [u8],
-) -> Counted
+) -> Result<usize, Refusal>
     ensures value { result ≡ burst_of (call samples.now catalogue.now settings room.old records.old) }
     ensures result_value { count_answer result ≡ answer_for (call samples.now catalogue.now settings room.old records.old) }
     ensures records_after { records.new ≡ records_after (call samples.now catalogue.now settings room.old
@@ -82,13 +78,9 @@ pub fn track(
 {
     let width = settings.width;
     let height = settings.height;
-    match outcome(width, height, samples.len(), records.len()) {
-        Outcome::Refused(r) => Counted::Refused(r),
-        Outcome::Accepted => {
-            let size = width * height;
-            let count = samples.len() / size;
-            track_frames(samples, catalogue, settings, room, records, size, count);
-            Counted::Count(count)
-        }
-    }
+    outcome(width, height, samples.len(), records.len())?;
+    let size = width * height;
+    let count = samples.len() / size;
+    track_frames(samples, catalogue, settings, room, records, size, count);
+    Ok(count)
 }

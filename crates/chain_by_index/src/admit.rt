@@ -4,30 +4,25 @@ ghost use Rattle.refusal.specs.Table.{first_applying};
 ghost use Rattle.vectors.specs.Triples.{Listed};
 ghost use Rattle.chain_by_index.specs.Chain.{index_rows, stars_rows};
 
-use refusal::{Counted, Outcome};
+use refusal::Refusal;
 
 // 17, of decoded stars.
-fn index_outcome(stars: &[i32], index: &[u8], floor: i64) -> Outcome
+fn index_outcome(stars: &[i32], index: &[u8], floor: i64) -> Result<(), Refusal>
     requires { Listed 512 stars.now }
     ensures { result ≡ first_applying (index_rows stars.now index.now floor) }
 {
     if !catalogue_index::matches(stars, floor, index) {
         return refusal::plain(refusal::INDEX);
     }
-    Outcome::Accepted
+    Ok(())
 }
 
 // 6 and 7, and then 17.
-pub(crate) fn stars_outcome(bytes: &[u8], index: &[u8], floor: i64) -> Outcome
+pub(crate) fn stars_outcome(bytes: &[u8], index: &[u8], floor: i64) -> Result<(), Refusal>
     ensures { result ≡ first_applying (stars_rows bytes.now index.now floor) }
 {
-    let checked = catalogue::check(bytes);
-    match checked {
-        Counted::Refused(r) => Outcome::Refused(r),
-        Counted::Count(n) => {
-            let numbers = catalogue::stars(bytes);
-            let end = 3 * n;
-            index_outcome(&numbers[..end], index, floor)
-        }
-    }
+    let n = catalogue::check(bytes)?;
+    let numbers = catalogue::stars(bytes);
+    let end = 3 * n;
+    index_outcome(&numbers[..end], index, floor)
 }

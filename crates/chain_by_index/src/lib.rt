@@ -13,7 +13,6 @@ ghost use Rattle.chain_by_index.specs.Chain.{call, tracked_of, room_after};
 
 use chain::sight::Sighting;
 use chain::{Settings, Tracked, locate, sight};
-use refusal::Outcome;
 
 // The steps behind the directions. Only the ranking asks for the index.
 fn located(
@@ -31,20 +30,18 @@ fn located(
     ensures room_after { room.new ≡ ranked_room sighting.report bytes.now settings room.old }
 {
     let report = sighting.report;
-    let directions = sighting.directions;
-    let end = 3 * report.count;
     let tolerance = settings.tolerance;
     let stars = catalogue::stars(bytes);
     let stars_end = 3 * catalogue::records(bytes);
-    ranking_by_index::rank_right(
-        &directions[..end],
+    let _ = ranking_by_index::rank_right(
+        sighting.sights(),
         &stars[..stars_end],
         index,
         floor,
         tolerance,
         room,
     );
-    locate::identified(report, &directions[..end], bytes, settings, room)
+    locate::identified(report, sighting.sights(), bytes, settings, room)
 }
 
 // The whole chain, with the catalogue's index for a floor.
@@ -62,9 +59,8 @@ pub fn track(
     let words = room.len();
     let stars = admit::stars_outcome(catalogue, index, floor);
     let sighting = sight::take_sights(samples, stars, settings, words);
-    let outcome = sighting.outcome;
-    match outcome {
-        Outcome::Refused(r) => chain::refused(r),
-        Outcome::Accepted => located(sighting, catalogue, index, floor, settings, room),
+    match sighting.outcome {
+        Err(r) => chain::refused(r),
+        Ok(()) => located(sighting, catalogue, index, floor, settings, room),
     }
 }

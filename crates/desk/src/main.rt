@@ -2,53 +2,56 @@
 // the script `mnemathor` tells them from an answer.
 #![tactic(auto)]
 
-ghost use Rattle.std.specs.Prelude.{◌≤◌, ◌<◌, length};
+mod request;
+
+ghost use Rattle.std.specs.Prelude.{◌≤◌, length};
 
 use catalogue::{MOST_RECORDS, RECORD_SIZE};
-use desk_lines::cut::Limit;
+use files::{MOST_SAMPLES, SETTINGS_SIZE};
+use request::{Request, Subcommand};
 use std::env::{Env, FillError};
 use std::fs::{File, OpenFile};
 use std::io::{Read, Write};
 use std::rt::Files;
 use std::{fs, io, str};
-use text::{Parsed, Signed};
 
 // Each buffer has room for one byte more than its file may have, so that a file that is too long is seen to be.
-const SETTINGS_ROOM: usize = 33;
+const SETTINGS_ROOM: usize = SETTINGS_SIZE + 1;
 
-const FRAME_ROOM: usize = 64001;
+const FRAME_ROOM: usize = 2 * MOST_SAMPLES + 1;
 
 const CATALOGUE_ROOM: usize = RECORD_SIZE * MOST_RECORDS + 1;
 
 // An index of 512 stars has 130,816 records at most.
 const INDEX_ROOM: usize = 1569792;
 
-// No path is longer.
-const PATH_ROOM: usize = 4096;
+// No word is longer.
+const WORD_ROOM: usize = 4096;
+
+// One word more than any subcommand has with its own name.
+const TOO_MANY: usize = 6;
+
+// How many words the command line has behind the program's name, or that they are too many.
+fn count(rt: &impl Env) -> usize
+    ensures { result ≤ 6 }
+{
+    for i in 0..TOO_MANY {
+        if matches!(rt.arg(i + 1, &mut []), Err(FillError::NotPresent)) {
+            return i;
+        }
+    }
+    TOO_MANY
+}
+
+// Word i of the command line, in the buffer: nothing where there is no such word, or it is too long.
+fn word<'a>(rt: &impl Env, i: usize, buffer: &'a mut [u8]) -> &'a [u8] {
+    let end = rt.arg(i, buffer).unwrap_or(0);
+    &buffer[..end]
+}
 
 // Writes a line on standard error. Where that fails nobody can be told.
 fn tell(rt: &impl Eprint, line: &str) {
     let _ = rt.eprintln(line);
-}
-
-fn why_usage(rt: &impl Eprint) {
-    tell(rt, "usage: ./mnemathor why FOLDER ROW COLUMN");
-}
-
-fn index_usage(rt: &impl Eprint) {
-    tell(rt, "usage: ./mnemathor index CATALOGUE FLOOR OUT");
-}
-
-fn cut_usage(rt: &impl Eprint) {
-    tell(rt, "usage: ./mnemathor cut CATALOGUE LIMIT CLOSENESS OUT");
-}
-
-fn compare_usage(rt: &impl Eprint) {
-    tell(rt, "usage: ./mnemathor compare OLD NEW");
-}
-
-fn rival_usage(rt: &impl Eprint) {
-    tell(rt, "usage: ./mnemathor rival FOLDER");
 }
 
 // Writes an answer out. A write that failed is told on standard error, and its error ends the program.
@@ -61,6 +64,7 @@ fn show(rt: &(impl Print + Eprint), answer: &[u8]) -> io::Result<()> {
 }
 
 // Reads until the buffer is full, the file ends or a read fails, and answers how many bytes it put there.
+// Stays: `fill`, `read` and `show` are those of `mnemathor`. A library that both called would rest on std's files, and no library but the trials' does.
 fn fill(file: &mut impl Read, buffer: &mut [u8]) -> usize
     ensures { result ≤ length buffer.new }
 {
@@ -76,61 +80,23 @@ fn fill(file: &mut impl Read, buffer: &mut [u8]) -> usize
 }
 
 // Reads a file into the buffer and answers how many bytes it put there. A missing file counts as empty.
-fn read(rt: &impl Files, name: &str, buffer: &mut [u8]) -> usize
+fn read(rt: &impl Files, path: &str, buffer: &mut [u8]) -> usize
     ensures { result ≤ length buffer.new }
 {
-    match File::open(rt, name) {
+    match File::open(rt, path) {
         Ok(mut file) => fill(&mut file, buffer),
         Err(_) => 0,
     }
 }
 
-// Puts word i of the command line into the buffer and answers its length: 0 where there is no such word, or it is too long.
-fn word(rt: &impl Env, i: usize, buffer: &mut [u8]) -> usize
+// The same of the file that a word names. The name of a file is UTF-8, and none with another name can be read.
+fn read_named(rt: &impl Files, name: &[u8], buffer: &mut [u8]) -> usize
     ensures { result ≤ length buffer.new }
 {
-    rt.arg(i, buffer).unwrap_or(0)
-}
-
-fn has_word(rt: &impl Env, i: usize) -> bool {
-    !matches!(rt.arg(i, &mut []), Err(FillError::NotPresent))
-}
-
-// Whether the command line has so many words, the program's name among them.
-fn has_words(rt: &impl Env, count: usize) -> bool
-    requires { 0 < count }
-{
-    has_word(rt, count - 1) && !has_word(rt, count)
-}
-
-// Reads the file that word i names. The name of a file is UTF-8, and none with another name can be read.
-fn read_named(rt: &(impl Files + Env), i: usize, buffer: &mut [u8]) -> usize
-    ensures { result ≤ length buffer.new }
-{
-    let mut name = [0u8; PATH_ROOM];
-    let n = word(rt, i, &mut name);
-    match str::from_utf8(&name[..n]) {
+    match str::from_utf8(name) {
         Ok(path) => read(rt, path, buffer),
         Err(_) => 0,
     }
-}
-
-fn word_is(rt: &impl Env, i: usize, name: &[u8]) -> bool {
-    let mut buffer = [0u8; 16];
-    let n = word(rt, i, &mut buffer);
-    &buffer[..n] == name
-}
-
-fn number(rt: &impl Env, i: usize) -> Parsed {
-    let mut buffer = [0u8; 4096];
-    let n = word(rt, i, &mut buffer);
-    text::parse_number(&buffer[..n])
-}
-
-fn signed(rt: &impl Env, i: usize) -> Signed {
-    let mut buffer = [0u8; 4096];
-    let n = word(rt, i, &mut buffer);
-    text::parse_signed(&buffer[..n])
 }
 
 // Why the pixel at row, column is not a star.
@@ -140,32 +106,14 @@ fn why(rt: &(impl Files + Print + Eprint), row: usize, column: usize) -> io::Res
     let mut frame = [0u8; FRAME_ROOM];
     let m = read(rt, "frame.bin", &mut frame);
     let mut line = [0u8; desk_lines::LINE];
-    let k = desk_lines::why(&settings[..n], &frame[..m], row, column, &mut line);
-    show(rt, &line[..k])
+    let end = desk_lines::why(&settings[..n], &frame[..m], row, column, &mut line);
+    show(rt, &line[..end])
 }
 
-// why ROW COLUMN
-fn why_words(rt: &(impl Files + Env + Print + Eprint)) -> io::Result<()> {
-    if !has_words(rt, 4) {
-        why_usage(rt);
-        return Ok(());
-    }
-    let row = number(rt, 2);
-    let column = number(rt, 3);
-    let Parsed::Number(r) = row else {
-        why_usage(rt);
-        return Ok(());
-    };
-    let Parsed::Number(c) = column else {
-        why_usage(rt);
-        return Ok(());
-    };
-    why(rt, r, c)
-}
-
-// Puts the bytes into the file, and answers whether all of them are there.
-fn put(file: &mut (impl Write + OpenFile), bytes: &[u8]) -> bool {
-    file.write_all(bytes).is_ok() && file.sync_all().is_ok()
+// Puts the bytes into the file.
+fn put(file: &mut (impl Write + OpenFile), bytes: &[u8]) -> io::Result<()> {
+    file.write_all(bytes)?;
+    file.sync_all()
 }
 
 // Makes the file, which must not be there, and puts the bytes into it. A write that failed is told by a line of its own, of which the script makes a status,
@@ -178,7 +126,7 @@ fn save(
 ) -> io::Result<()> {
     match File::create_new(rt, path) {
         Ok(mut file) => {
-            if put(&mut file, bytes) {
+            if put(&mut file, bytes).is_ok() {
                 return show(rt, answer);
             }
             let _ = fs::remove_file(rt, path);
@@ -191,21 +139,15 @@ fn save(
     }
 }
 
-// Saves what was made, under the name that word i gives, or shows why there is nothing.
+// Saves what was made under the name that a word gives.
 fn keep(
-    rt: &(impl Files + Env + Print + Eprint),
-    i: usize,
-    accepted: bool,
-    made: &[u8],
+    rt: &(impl Files + Print + Eprint),
+    out: &[u8],
+    bytes: &[u8],
     answer: &[u8],
 ) -> io::Result<()> {
-    if !accepted {
-        return show(rt, answer);
-    }
-    let mut name = [0u8; PATH_ROOM];
-    let n = word(rt, i, &mut name);
-    match str::from_utf8(&name[..n]) {
-        Ok(path) => save(rt, path, made, answer),
+    match str::from_utf8(out) {
+        Ok(path) => save(rt, path, bytes, answer),
         Err(_) => {
             tell(rt, "desk: the file's name is not UTF-8");
             Ok(())
@@ -213,106 +155,73 @@ fn keep(
     }
 }
 
-// The index of a catalogue's bytes, made in the lent room.
+// The index of a catalogue's bytes, made in the lent room, and saved.
 fn make(
-    rt: &(impl Files + Env + Print + Eprint),
+    rt: &(impl Files + Print + Eprint),
     catalogue: &[u8],
     floor: i64,
     index: &mut [u8],
+    out: &[u8],
 ) -> io::Result<()> {
     let mut line = [0u8; desk_lines::LINE];
     let made = desk_lines::index::index(catalogue, floor, index, &mut line);
-    let bytes = made.bytes;
-    let length = made.line;
-    keep(rt, 4, made.accepted, &index[..bytes], &line[..length])
-}
-
-// The index of the catalogue that the second word names.
-fn index(rt: &(impl Files + Env + Print + Eprint), floor: i64) -> io::Result<()> {
-    let mut catalogue = [0u8; CATALOGUE_ROOM];
-    let m = read_named(rt, 2, &mut catalogue);
-    let mut index = [0u8; INDEX_ROOM];
-    make(rt, &catalogue[..m], floor, &mut index)
-}
-
-// index CATALOGUE FLOOR OUT
-fn index_words(rt: &(impl Files + Env + Print + Eprint)) -> io::Result<()> {
-    if !has_words(rt, 5) {
-        index_usage(rt);
-        return Ok(());
+    match made.bytes {
+        Some(bytes) => keep(rt, out, &index[..bytes], &line[..made.line]),
+        None => show(rt, &line[..made.line]),
     }
-    let floor = signed(rt, 3);
-    let Signed::Number(g) = floor else {
-        index_usage(rt);
-        return Ok(());
-    };
-    index(rt, g)
 }
 
-fn limit(rt: &impl Env, i: usize) -> Limit {
-    let mut buffer = [0u8; 4096];
-    let n = word(rt, i, &mut buffer);
-    desk_lines::cut::parse_limit(&buffer[..n])
+// The index of the catalogue that a word names.
+fn index(
+    rt: &(impl Files + Print + Eprint),
+    name: &[u8],
+    floor: i64,
+    out: &[u8],
+) -> io::Result<()> {
+    let mut catalogue = [0u8; CATALOGUE_ROOM];
+    let end = read_named(rt, name, &mut catalogue);
+    let mut index = [0u8; INDEX_ROOM];
+    make(rt, &catalogue[..end], floor, &mut index, out)
 }
 
 // Cuts a catalogue in its buffer, and saves the records that are kept.
 fn trim(
-    rt: &(impl Files + Env + Print + Eprint),
+    rt: &(impl Files + Print + Eprint),
     catalogue: &mut [u8],
     limit: i32,
     closeness: i64,
+    out: &[u8],
 ) -> io::Result<()> {
     let mut line = [0u8; desk_lines::LINE];
     let made = desk_lines::cut::cut_text(catalogue, limit, closeness, &mut line);
-    let bytes = made.bytes;
-    let length = made.line;
-    keep(rt, 5, made.accepted, &catalogue[..bytes], &line[..length])
+    match made.bytes {
+        Some(bytes) => keep(rt, out, &catalogue[..bytes], &line[..made.line]),
+        None => show(rt, &line[..made.line]),
+    }
 }
 
-// The cut of the catalogue that the second word names.
-fn cut(rt: &(impl Files + Env + Print + Eprint), limit: i32, closeness: i64) -> io::Result<()> {
+// The cut of the catalogue that a word names.
+fn cut(
+    rt: &(impl Files + Print + Eprint),
+    name: &[u8],
+    limit: i32,
+    closeness: i64,
+    out: &[u8],
+) -> io::Result<()> {
     let mut catalogue = [0u8; CATALOGUE_ROOM];
-    let m = read_named(rt, 2, &mut catalogue);
-    trim(rt, &mut catalogue[..m], limit, closeness)
+    let end = read_named(rt, name, &mut catalogue);
+    trim(rt, &mut catalogue[..end], limit, closeness, out)
 }
 
-// cut CATALOGUE LIMIT CLOSENESS OUT
-fn cut_words(rt: &(impl Files + Env + Print + Eprint)) -> io::Result<()> {
-    if !has_words(rt, 6) {
-        cut_usage(rt);
-        return Ok(());
-    }
-    let most = limit(rt, 3);
-    let closeness = signed(rt, 4);
-    let Limit::Number(l) = most else {
-        cut_usage(rt);
-        return Ok(());
-    };
-    let Signed::Number(c) = closeness else {
-        cut_usage(rt);
-        return Ok(());
-    };
-    cut(rt, l, c)
-}
-
-// What changed from the catalogue that the second word names to the one that the third does.
-fn compare(rt: &(impl Files + Env + Print + Eprint)) -> io::Result<()> {
-    let mut old = [0u8; CATALOGUE_ROOM];
-    let n = read_named(rt, 2, &mut old);
-    let mut new = [0u8; CATALOGUE_ROOM];
-    let m = read_named(rt, 3, &mut new);
+// What changed from the one catalogue to the other.
+fn compare(rt: &(impl Files + Print + Eprint), old: &[u8], new: &[u8]) -> io::Result<()> {
+    let mut first = [0u8; CATALOGUE_ROOM];
+    let n = read_named(rt, old, &mut first);
+    let mut second = [0u8; CATALOGUE_ROOM];
+    let m = read_named(rt, new, &mut second);
     let mut lines = [0u8; desk_lines::compare::ROOM];
-    let k = desk_lines::compare::compare_text(&old[..n], &new[..m], &mut lines);
-    show(rt, &lines[..k])
-}
-
-// compare OLD NEW
-fn compare_words(rt: &(impl Files + Env + Print + Eprint)) -> io::Result<()> {
-    if !has_words(rt, 4) {
-        compare_usage(rt);
-        return Ok(());
-    }
-    compare(rt)
+    let end = desk_lines::compare::compare_text(&first[..n], &second[..m], &mut lines);
+    show(rt, &lines[..end])
 }
 
 // Whether what the three files show has a rival.
@@ -328,27 +237,54 @@ fn rival(rt: &(impl Files + Print + Eprint)) -> io::Result<()> {
     show(rt, &room[..end])
 }
 
-// rival
-fn rival_words(rt: &(impl Files + Env + Print + Eprint)) -> io::Result<()> {
-    if !has_words(rt, 2) {
-        rival_usage(rt);
-        return Ok(());
+fn answer(rt: &(impl Files + Print + Eprint), request: Request<'_>) -> io::Result<()> {
+    match request {
+        Request::Why { row, column } => why(rt, row, column),
+        Request::Index {
+            catalogue,
+            floor,
+            out,
+        } => index(rt, catalogue, floor, out),
+        Request::Cut {
+            catalogue,
+            limit,
+            closeness,
+            out,
+        } => cut(rt, catalogue, limit, closeness, out),
+        Request::Compare { old, new } => compare(rt, old, new),
+        Request::Rival => rival(rt),
     }
-    rival(rt)
+}
+
+// Answers what the words behind a subcommand ask, or tells how it is called.
+fn run(
+    rt: &(impl Files + Print + Eprint),
+    subcommand: Subcommand,
+    words: &[&[u8]],
+) -> io::Result<()> {
+    match request::asked(subcommand, words) {
+        Some(request) => answer(rt, request),
+        None => {
+            tell(rt, subcommand.usage());
+            Ok(())
+        }
+    }
 }
 
 fn main(rt: HostRuntime) -> io::Result<()> {
-    if word_is(&rt, 1, b"index") {
-        return index_words(&rt);
+    let mut first = [0u8; WORD_ROOM];
+    let first = word(&rt, 1, &mut first);
+    let mut second = [0u8; WORD_ROOM];
+    let second = word(&rt, 2, &mut second);
+    let mut third = [0u8; WORD_ROOM];
+    let third = word(&rt, 3, &mut third);
+    let mut fourth = [0u8; WORD_ROOM];
+    let fourth = word(&rt, 4, &mut fourth);
+    let mut fifth = [0u8; WORD_ROOM];
+    let fifth = word(&rt, 5, &mut fifth);
+    let words = [first, second, third, fourth, fifth, &[]];
+    match &words[..count(&rt)] {
+        [subcommand, rest @ ..] => run(&rt, Subcommand::from(*subcommand), rest),
+        [] => run(&rt, Subcommand::Why, &[]),
     }
-    if word_is(&rt, 1, b"cut") {
-        return cut_words(&rt);
-    }
-    if word_is(&rt, 1, b"compare") {
-        return compare_words(&rt);
-    }
-    if word_is(&rt, 1, b"rival") {
-        return rival_words(&rt);
-    }
-    why_words(&rt)
 }

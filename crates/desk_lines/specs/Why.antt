@@ -2,20 +2,18 @@
 use Rattle.std.specs.Prelude.{List, ◌++◌, ℕ, length}
 use Rattle.frame_centroid.specs.declared.Centroid.{Centroid}
 use Rattle.chain.specs.declared.Settings.{Settings}
-use Rattle.files.specs.declared.Reading.{Reading}
-use Rattle.files.specs.declared.Reading.TheVariants as reading
 use Rattle.files.specs.Settings.{reading_of}
 use Rattle.files.specs.Samples.{sample_count, samples_of}
 use Rattle.frame_reason.specs.declared.Side.{Side}
 use Rattle.frame_reason.specs.declared.Side.TheVariants.{Left, Right, Top, Bottom}
 use Rattle.frame_reason.specs.declared.Reason.{Reason}
 use Rattle.frame_reason.specs.declared.Reason.TheVariants.{Dark, Beaten, Edge, Lone, Measured}
-use Rattle.frame_reason.specs.declared.Explanation.{Explanation}
-use Rattle.frame_reason.specs.declared.Explanation.TheVariants.{Refused, Given}
 use Rattle.frame_reason.specs.Reason.{explanation_of}
 use Rattle.text.specs.Ascii.{ascii}
 use Rattle.text.specs.Decimal.{decimal, labelled}
 use Rattle.text.specs.Refused.{refusal_line}
+use Rattle.std.specs.Prelude.{Result, Ok, Err}
+use Rattle.refusal.specs.declared.Refusal.{Refusal}
 
 -- ---- the line
 
@@ -44,20 +42,20 @@ reason_line (Edge side) = side_line side
 reason_line (Lone largest) = lone_line largest
 reason_line (Measured c) = measured_line c
 
-abbrev pub explanation_line : Explanation → List ℕ
-explanation_line (Refused r) = refusal_line r
-explanation_line (Given reason) = reason_line reason
+abbrev pub explanation_line : Result Reason Refusal → List ℕ
+explanation_line (Err r) = refusal_line r
+explanation_line (Ok reason) = reason_line reason
 
 -- ---- the files
 
 -- with settings that were read: a frame file of the wrong length, or of more than 32,000 samples, holds none, which the call refuses
-unfoldable pub explained_with : List ℕ → ℕ → ℕ → Settings → Explanation
+unfoldable pub explained_with : List ℕ → ℕ → ℕ → Settings → Result Reason Refusal
 explained_with frame row column s =
     explanation_of (samples_of frame (sample_count (length frame) s.width s.height)) s.width s.height s.threshold row column
 
-abbrev pub explained : List ℕ → ℕ → ℕ → Reading → Explanation
-explained frame row column (reading.Refused r) = Refused r
-explained frame row column (reading.Read s) = explained_with frame row column s
+abbrev pub explained : List ℕ → ℕ → ℕ → Result Settings Refusal → Result Reason Refusal
+explained frame row column (Err r) = Err r
+explained frame row column (Ok s) = explained_with frame row column s
 
 -- the line for settings.bin, frame.bin, row and column
 unfoldable pub why_text : List ℕ → List ℕ → ℕ → ℕ → List ℕ

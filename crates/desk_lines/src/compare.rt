@@ -5,7 +5,6 @@ ghost use Rattle.text.specs.Written.{Wrote};
 ghost use Rattle.desk_lines.specs.compare.Lines.{change_label, change_line, lines_of, compare_text};
 
 use catalogue_compare::CHANGE_SIZE;
-use refusal::Counted;
 
 // The bytes that a room for the lines of any two catalogues has.
 pub const ROOM: usize = 32768;
@@ -15,13 +14,11 @@ fn label(room: &mut [u8], at: usize, identity: u32, kind: u32) -> usize
     ensures wrote { Wrote room.old at (change_label identity kind) room.new result }
     ensures upper_bound { result ≤ at + 28 }
 {
-    if kind == 1 {
-        return text::labelled(room, at, b"removed ", identity as u64);
+    match kind {
+        1 => text::labelled(room, at, b"removed ", identity as u64),
+        2 => text::labelled(room, at, b"added ", identity as u64),
+        _ => text::labelled(room, at, b"changed ", identity as u64),
     }
-    if kind == 2 {
-        return text::labelled(room, at, b"added ", identity as u64);
-    }
-    text::labelled(room, at, b"changed ", identity as u64)
 }
 
 fn line(room: &mut [u8], at: usize, identity: u32, kind: u32) -> usize
@@ -38,9 +35,8 @@ fn lines(room: &mut [u8], list: &[u8]) -> usize
     ensures upper_bound { result ≤ 29 * (length list.now / 8) }
 {
     let records = list.len() / CHANGE_SIZE;
-    let mut next: usize = 0;
-    let mut k: usize = 0;
-    while k < records {
+    let mut next = 0;
+    for k in 0..records {
         let at = CHANGE_SIZE * k;
         next = line(
             room,
@@ -48,7 +44,6 @@ fn lines(room: &mut [u8], list: &[u8]) -> usize
             words::u32_at(list, at),
             words::u32_at(list, at + 4),
         );
-        k += 1;
     }
     next
 }
@@ -66,8 +61,8 @@ pub fn compare_text(first: &[u8], second: &[u8], room: &mut [u8]) -> usize
     let mut list = [0u8; 8192];
     let compared = catalogue_compare::compare(first, second, &mut list);
     match compared {
-        Counted::Refused(r) => text::refused(room, 0, r),
-        Counted::Count(n) => {
+        Err(r) => text::refused(room, 0, r),
+        Ok(n) => {
             let end = CHANGE_SIZE * n;
             lines(room, &list[..end])
         }

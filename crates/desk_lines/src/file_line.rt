@@ -9,10 +9,8 @@ use refusal::Refusal;
 // What the desk has of the file.
 #[derive(Clone, Copy)]
 pub struct Made {
-    // Whether there is one.
-    pub accepted: bool,
-    // How many bytes it has, at the front of its buffer.
-    pub bytes: usize,
+    // How many bytes it has, at the front of its buffer: none where there is no file.
+    pub bytes: Option<usize>,
     // How many bytes the line has.
     pub line: usize,
 }

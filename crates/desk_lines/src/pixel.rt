@@ -5,9 +5,9 @@ ghost use Rattle.text.specs.Written.{Wrote};
 ghost use Rattle.desk_lines.specs.Why.{pair_line, side_line, lone_line, measured_line, reason_line, explanation_line, explained_with, why_text};
 
 use chain::Settings;
-use files::Reading;
 use frame_centroid::Centroid;
-use frame_reason::{Explanation, Reason, Side};
+use frame_reason::{Reason, Side};
+use refusal::Refusal;
 
 // A word and two numbers.
 fn pair(room: &mut [u8], word: &[u8], a: u64, b: u64) -> usize
@@ -62,18 +62,18 @@ fn reason_line(room: &mut [u8], reason: Reason) -> usize
     }
 }
 
-fn line(room: &mut [u8], explanation: Explanation) -> usize
+fn line(room: &mut [u8], explanation: Result<Reason, Refusal>) -> usize
     ensures wrote { Wrote room.old 0 (explanation_line explanation) room.new result }
     ensures upper_bound { result ≤ 72 }
 {
     match explanation {
-        Explanation::Refused(r) => text::refused(room, 0, r),
-        Explanation::Given(reason) => reason_line(room, reason),
+        Err(r) => text::refused(room, 0, r),
+        Ok(reason) => reason_line(room, reason),
     }
 }
 
 // The explanation for a frame file, with settings that were read.
-fn explain(frame: &[u8], row: usize, column: usize, settings: Settings) -> Explanation
+fn explain(frame: &[u8], row: usize, column: usize, settings: Settings) -> Result<Reason, Refusal>
     ensures { result ≡ explained_with frame.now row column settings }
 {
     let mut samples = [0u16; 32000];
@@ -96,8 +96,8 @@ pub fn why(settings: &[u8], frame: &[u8], row: usize, column: usize, room: &mut 
     }
     let reading = files::read_settings(settings);
     match reading {
-        Reading::Refused(r) => text::refused(room, 0, r),
-        Reading::Read(s) => {
+        Err(r) => text::refused(room, 0, r),
+        Ok(s) => {
             let explanation = explain(frame, row, column, s);
             line(room, explanation)
         }

@@ -6,9 +6,9 @@ use Rattle.refusal.specs.Answer.{Answer, refused_with, accepted_with}
 use Rattle.camera_lens.specs.Lens.{focal_number}
 use Rattle.camera_lens.specs.Stated.{settings_lens}
 use Rattle.chain.specs.declared.Settings.{Settings}
-use Rattle.files.specs.declared.Reading.{Reading}
-use Rattle.files.specs.declared.Reading.TheVariants.{Refused, Read}
 use Rattle.words.specs.Number.{number_at}
+use Rattle.std.specs.Prelude.{Result, Ok, Err}
+use Rattle.refusal.specs.declared.Refusal.{Refusal}
 
 unfoldable pub settings_of : List ℕ → Settings
 settings_of bytes =
@@ -23,8 +23,8 @@ settings_of bytes =
       tolerance = number_at bytes 24 8;
     }
 
-unfoldable pub reading_of : List ℕ → Reading
-reading_of bytes = cond (eqb (length bytes) 32) (Read (settings_of bytes)) (Refused (record { number = size; place = 0 }))
+unfoldable pub reading_of : List ℕ → Result Settings Refusal
+reading_of bytes = cond (eqb (length bytes) 32) (Ok (settings_of bytes)) (Err (record { number = size; place = 0 }))
 
 -- ---- in document 01's own terms: width, height, threshold, needed count, cx, cy, F and T
 
@@ -40,9 +40,9 @@ values_in s =
     ∷ pos s.tolerance
     ∷ []
 
-abbrev pub reading_answer : Reading → Answer
-reading_answer (Refused r) = refused_with r.number r.place
-reading_answer (Read s) = accepted_with (values_in s)
+abbrev pub reading_answer : Result Settings Refusal → Answer
+reading_answer (Err r) = refused_with r.number r.place
+reading_answer (Ok s) = accepted_with (values_in s)
 
 -- the answer that a file must have
 abbrev pub answer_for : List ℕ → Answer

@@ -3,18 +3,17 @@ use Rattle.std.specs.Prelude.{List, ◌⊎◌, ◌≡◌, ℕ, ◌^◌, ◌≤�
 use Rattle.std.proofs.Common.{lt_of_lt_of_le, eq-eqb, ne_eqb, lit≤}
 use Rattle.words.specs.Number.{number_at}
 use Rattle.words.specs.NumberLaws.{number-most}
-use Rattle.camera_lens.specs.declared.Focal.TheVariants.{Whole}
 use Rattle.camera_lens.specs.Lens.{focal_of, out_of_range}
 use Rattle.camera_lens.proofs.StatedLaws.{settings-whole, settings-back, settings-refused}
-use Rattle.files.specs.declared.Reading.TheVariants.{Refused, Read}
 use Rattle.files.specs.Settings.{settings_of, reading_answer, answer_for}
+use Rattle.std.specs.Prelude.{Ok, Err}
 
 module _ (bytes : List ℕ) where
   -- F as the file has it
   abbrev F : ℕ
   F = number_at bytes 16 4
 
-  pub file-focal : 16384 ≤ F → F ≤ 4194304 → focal_of (settings_of bytes).lens ≡ Whole (pos F)
+  pub file-focal : 16384 ≤ F → F ≤ 4194304 → focal_of (settings_of bytes).lens ≡ Ok (pos F)
   unfolding settings_of
   file-focal a b = settings-back F a b
 
@@ -25,9 +24,9 @@ module _ (bytes : List ℕ) where
 -- ---- in document 01's terms
 
 module _ (bytes : List ℕ) where
-  pub read_told : length bytes ≡ 32 → number_at bytes 16 4 < 2 ^ 53 → reading_answer (Read (settings_of bytes)) ≡ answer_for bytes
+  pub read_told : length bytes ≡ 32 → number_at bytes 16 4 < 2 ^ 53 → reading_answer (Ok (settings_of bytes)) ≡ answer_for bytes
   unfolding settings_of
   read_told e h = rw (eq-eqb (length bytes) 32 e, settings-whole (number_at bytes 16 4) h)
 
-  pub length-told : (length bytes ≡ 32 → ⊥) → reading_answer (Refused (record { number = 1; place = 0 })) ≡ answer_for bytes
+  pub length-told : (length bytes ≡ 32 → ⊥) → reading_answer (Err (record { number = 1; place = 0 })) ≡ answer_for bytes
   length-told k = rw (ne_eqb (length bytes) 32 k)

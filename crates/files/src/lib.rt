@@ -14,26 +14,20 @@ pub const MOST_SAMPLES: usize = 32000;
 // How many bytes the settings file has.
 pub const SETTINGS_SIZE: usize = 32;
 
-// What the settings file gives.
-#[derive(Clone, Copy)]
-pub enum Reading {
-    Refused(Refusal),
-    Read(Settings),
-}
-
 // The settings, or refusal 1 for a file that is not 32 bytes long.
-pub fn read_settings(bytes: &[u8]) -> Reading
+#[tactic(auto, unfolding(crate::specs::Settings::reading_of, crate::specs::Settings::settings_of))]
+pub fn read_settings(bytes: &[u8]) -> Result<Settings, Refusal>
     ensures value { result ≡ reading_of bytes.now }
     ensures result_value { reading_answer result ≡ answer_for bytes.now }
 {
     let is_other_size = bytes.len() != SETTINGS_SIZE;
     if is_other_size {
-        return Reading::Refused(Refusal {
+        return Err(Refusal {
             number: refusal::SIZE,
             place: 0,
         });
     }
-    Reading::Read(Settings {
+    Ok(Settings {
         width: words::u16_at(bytes, 0) as usize,
         height: words::u16_at(bytes, 2) as usize,
         threshold: words::u16_at(bytes, 4) as usize,
@@ -46,6 +40,7 @@ pub fn read_settings(bytes: &[u8]) -> Reading
 }
 
 // How many samples a frame file of this length holds: width x height, or 0 where it is not as long as that or has too many.
+#[tactic(auto, unfolding(crate::specs::Samples::sample_count))]
 fn sample_count(len: usize, width: usize, height: usize) -> usize
     ensures { result ≡ sample_count len width height }
 {
@@ -76,10 +71,8 @@ pub fn read_samples(bytes: &[u8], width: usize, height: usize, room: &mut [u16])
     if is_short {
         return 0;
     }
-    let mut i: usize = 0;
-    while i < count {
+    for i in 0..count {
         room[i] = words::u16_at(bytes, 2 * i);
-        i += 1;
     }
     count
 }

@@ -1,10 +1,12 @@
 // Position and brightness of a star in its 7 x 7 window.
 #![tactic(auto)]
 
-ghost use Rattle.std.specs.Prelude.{◌≡◌, ◌+◌, ◌*◌, ◌<◌, ◌≤◌, length};
+ghost use Rattle.std.specs.Prelude.{◌≡◌, ◌+◌, ◌*◌, ◌<◌, ◌≤◌};
 ghost use Rattle.frame_centroid.specs.Border.{border_sum};
 ghost use Rattle.frame_centroid.specs.Centroid.{weight};
 ghost use Rattle.frame_centroid.specs.Moments.{position, from_moments, MomentsOf, Small};
+
+use frame_window::{Pixel, Place};
 
 // The border of the window: row and column from the window's top left. Its rule, that it is exactly the outer ring, each place once, is
 // `border-ring` of specs/Border.
@@ -35,6 +37,13 @@ const BORDER: [[usize; 2]; 24] = [
     [6, 6],
 ];
 
+// The pixel in the middle of a window of 7 x 7, all of it in the frame.
+#[derive(Clone, Copy)]
+pub struct Window<'a> {
+    pub middle: Pixel<'a>,
+    ghost inside: { (3 ≤ middle.place.row) × (middle.place.row + 3 < middle.frame.height) × (3 ≤ middle.place.column) × (middle.place.column + 3 < middle.frame.width) },
+}
+
 // Position in 1/256 pixel from the frame's top left, and brightness.
 #[derive(Clone, Copy)]
 pub struct Centroid {
@@ -51,70 +60,47 @@ pub struct Moments {
     pub down: u64,
 }
 
-// The sum of the border. One copy of the table serves the whole loop.
-fn border_sum(samples: &[u16], width: usize, height: usize, row: usize, column: usize) -> u64
-    requires { (length samples.now ≡ height * width) × (3 ≤ row) × (row + 3 < height) × (3 ≤ column) × (column + 3 < width) }
-    ensures { (result ≡ border_sum samples.now width row column) × (result < 65536 * 24) }
+// The sum of the border.
+fn border_sum(window: Window) -> u64
+    ensures { let p = window.entry.middle in (result ≡ border_sum p.frame.samples.now p.frame.width p.place.row p.place.column) × (result < 65536 * 24) }
 {
-    let border = BORDER;
-    let mut sum: u64 = 0;
-    let mut k: usize = 0;
-    while k < 24 {
-        let r = row - 3 + border[k][0];
-        let c = column - 3 + border[k][1];
-        sum += frame_window::sample(samples, width, height, r, c) as u64;
-        k += 1;
+    let Pixel { frame, place, .. } = window.middle;
+    let mut sum = 0;
+    for [r, c] in &BORDER {
+        let row = place.row - 3 + r;
+        let column = place.column - 3 + c;
+        sum += u64::from(frame_window::sample(frame, row, column));
     }
     sum
 }
 
-// The weight of the inner pixel i rows and j columns from the inner part's top left; sum is the border's. The comparison comes before
-// the difference, which is nowhere negative.
-fn weigh(
-    samples: &[u16],
-    width: usize,
-    height: usize,
-    row: usize,
-    column: usize,
-    sum: u64,
-    i: usize,
-    j: usize,
-) -> u64
-    requires { (length samples.now ≡ height * width) × (3 ≤ row) × (row + 3 < height) × (3 ≤ column) × (column + 3 < width) × (i < 5) × (j < 5)
-        × (sum ≡ border_sum samples.now width row column) }
-    ensures { (result ≡ weight samples.now width row column i j) × (result < 65536 * 24) }
+// The weight of the inner pixel i rows and j columns from the inner part's top left; sum is the border's. Where the border outweighs the
+// pixel it is 0.
+fn weigh(window: Window, sum: u64, i: usize, j: usize) -> u64
+    requires { let p = window.middle in (i < 5) × (j < 5) × (sum ≡ border_sum p.frame.samples.now p.frame.width p.place.row p.place.column) }
+    ensures { let p = window.entry.middle in (result ≡ weight p.frame.samples.now p.frame.width p.place.row p.place.column i j) × (result < 65536 * 24) }
 {
-    let mine = 24
-        * (frame_window::sample(samples, width, height, row - 2 + i, column - 2 + j) as u64);
-    if sum < mine { mine - sum } else { 0 }
+    let Pixel { frame, place, .. } = window.middle;
+    let sample = frame_window::sample(frame, place.row - 2 + i, place.column - 2 + j);
+    let mine = 24 * u64::from(sample);
+    mine.saturating_sub(sum)
 }
 
-// The sums over the inner pixels of the window about row, column.
-pub fn moments_at(
-    samples: &[u16],
-    width: usize,
-    height: usize,
-    row: usize,
-    column: usize,
-) -> Moments
-    requires { (length samples.now ≡ height * width) × (3 ≤ row) × (row + 3 < height) × (3 ≤ column) × (column + 3 < width) }
-    ensures { MomentsOf samples.now width row column result }
+// The sums over the inner pixels of the window.
+pub fn moments_at(window: Window) -> Moments
+    ensures { let p = window.entry.middle in MomentsOf p.frame.samples.now p.frame.width p.place.row p.place.column result }
 {
-    let sum = border_sum(samples, width, height, row, column);
+    let sum = border_sum(window);
     let mut brightness: u64 = 0;
     let mut across: u64 = 0;
     let mut down: u64 = 0;
-    let mut i: usize = 0;
-    while i < 5 {
-        let mut j: usize = 0;
-        while j < 5 {
-            let weight = weigh(samples, width, height, row, column, sum, i, j);
+    for i in 0..5 {
+        for j in 0..5 {
+            let weight = weigh(window, sum, i, j);
             brightness += weight;
             across += weight * (j as u64);
             down += weight * (i as u64);
-            j += 1;
         }
-        i += 1;
     }
     Moments {
         brightness,
@@ -138,13 +124,13 @@ fn place(base: usize, moment: u64, brightness: u64) -> u64
     }
 }
 
-// The centroid about row, column that the sums give, where there is any brightness.
-pub fn from_moments(row: usize, column: usize, moments: Moments) -> Centroid
-    requires { Small moments × (3 ≤ row) × (row < 65536) × (3 ≤ column) × (column < 65536) }
-    ensures { result ≡ from_moments row column moments }
+// The centroid that the sums of a window give, where there is any brightness; middle is the window's.
+pub fn from_moments(middle: Place, moments: Moments) -> Centroid
+    requires { Small moments × (3 ≤ middle.row) × (middle.row < 65536) × (3 ≤ middle.column) × (middle.column < 65536) }
+    ensures { result ≡ from_moments middle.row middle.column moments }
 {
     let brightness = moments.brightness;
-    let x = place(column, moments.across, brightness);
-    let y = place(row, moments.down, brightness);
+    let x = place(middle.column, moments.across, brightness);
+    let y = place(middle.row, moments.down, brightness);
     Centroid { x, y, brightness }
 }

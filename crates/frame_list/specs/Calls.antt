@@ -8,14 +8,14 @@ use Rattle.frame_verdict.specs.declared.Kind.TheVariants.{Dark, Beaten, Edge, Lo
 use Rattle.frame_verdict.specs.declared.Verdict.{Verdict}
 use Rattle.frame_list.specs.input.Input.{frame_rows, pixel_rows, pixel_answer}
 use Rattle.frame_list.specs.Stars.{report_of, nothing}
-use Rattle.frame_list.specs.declared.Judgement.{Judgement}
-use Rattle.frame_list.specs.declared.Judgement.TheVariants.{Refused, Judged}
 use Rattle.frame_list.specs.declared.Listing.{Listing}
+use Rattle.std.specs.Prelude.{Result, Ok, Err}
+use Rattle.refusal.specs.declared.Refusal.{Refusal}
 
 -- the verdict on a pixel, or the refusal
-unfoldable pub judgement_of : List ℕ → ℕ → ℕ → ℕ → ℕ → ℕ → Judgement
+unfoldable pub judgement_of : List ℕ → ℕ → ℕ → ℕ → ℕ → ℕ → Result Verdict Refusal
 judgement_of samples width height threshold row column =
-    answered Refused (Judged (verdict_of samples width height threshold row column)) (first_applying (pixel_rows samples width height threshold row column))
+    answered Err (Ok (verdict_of samples width height threshold row column)) (first_applying (pixel_rows samples width height threshold row column))
 
 -- the frame's list and counts, or the refusal and zeros
 unfoldable pub listing_of : List ℕ → ℕ → ℕ → ℕ → Listing
@@ -37,9 +37,9 @@ measured_values (Measured c) = pos c.x ∷ (pos c.y ∷ (pos c.brightness ∷ []
 abbrev pub verdict_values : Verdict → List ℤ
 verdict_values v = pos v.row ∷ (pos v.column ∷ (pos (kind_number v.kind) ∷ measured_values v.kind))
 
-abbrev pub judgement_answer : Judgement → Answer
-judgement_answer (Refused r) = refused_with r.number r.place
-judgement_answer (Judged v) = accepted_with (verdict_values v)
+abbrev pub judgement_answer : Result Verdict Refusal → Answer
+judgement_answer (Err r) = refused_with r.number r.place
+judgement_answer (Ok v) = accepted_with (verdict_values v)
 
 -- the answer that a pixel of a frame must have
 abbrev pub answer_for : List ℕ → ℕ → ℕ → ℕ → ℕ → ℕ → Answer

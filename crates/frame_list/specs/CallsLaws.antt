@@ -13,8 +13,6 @@ use Rattle.refusal.specs.Laws.{Silent, Given}
 use Rattle.refusal.proofs.Laws.{given-refused, refused-given, silent-accepted}
 use Rattle.refusal.specs.AnswerLaws.{answer_by}
 use Rattle.refusal.proofs.AnswerLaws.{answered-by}
-use Rattle.refusal.specs.declared.Outcome.{Outcome}
-use Rattle.refusal.specs.declared.Outcome.TheVariants.{Accepted}
 use Rattle.lists.specs.Order.{pick, put, ordered}
 use Rattle.lists.specs.Laws.{count, InOrder}
 use Rattle.lists.proofs.Laws.{put-length, each-once, none-beyond, in_order}
@@ -27,7 +25,8 @@ use Rattle.frame_list.specs.input.Input.{frame_rows, pixel_rows}
 use Rattle.frame_list.specs.Stars.{bright, nought, is_measured, number_of, kind_at, star_at, measured_pixels, measured_of, report_of, nothing}
 use Rattle.frame_list.specs.StarsLaws.{star-is}
 use Rattle.frame_list.specs.Calls.{judgement_of, listing_of, judgement_answer, answer_for}
-use Rattle.frame_list.specs.declared.Judgement.TheVariants.{Refused, Judged}
+use Rattle.std.specs.Prelude.{Result, Ok, Err}
+use Rattle.refusal.specs.declared.Refusal.{Refusal}
 
 -- ---- which refusal: the one whose row applies while none before it does (`Given`), and none exactly when no row applies (`Silent`)
 
@@ -44,7 +43,7 @@ module _ (samples : List ℕ) (width height threshold : ℕ) where
   list-refused-only n p e = refused-given (frame_rows samples width height threshold) n p e
 
   pub list-accepted : Silent (frame_rows samples width height threshold)
-      → ((listing_of samples width height threshold).outcome ≡ Accepted)
+      → ((listing_of samples width height threshold).outcome ≡ Ok tt)
       × ((listing_of samples width height threshold).report ≡ report_of samples width height threshold (height * width))
   unfolding listing_of
   list-accepted s =
@@ -53,30 +52,30 @@ module _ (samples : List ℕ) (width height threshold : ℕ) where
 
 module _ (samples : List ℕ) (width height threshold row column : ℕ) where
   pub judge-refused : (n p : ℕ) → Given (pixel_rows samples width height threshold row column) n p
-      → judgement_of samples width height threshold row column ≡ Refused (record { number = n; place = p })
+      → judgement_of samples width height threshold row column ≡ Err (record { number = n; place = p })
   unfolding judgement_of
   judge-refused n p g = rw (given-refused (pixel_rows samples width height threshold row column) n p g)
 
-  pub judge-refused-only : (n p : ℕ) → judgement_of samples width height threshold row column ≡ Refused (record { number = n; place = p })
+  pub judge-refused-only : (n p : ℕ) → judgement_of samples width height threshold row column ≡ Err (record { number = n; place = p })
       → Given (pixel_rows samples width height threshold row column) n p
   unfolding judgement_of
   judge-refused-only n p e = refused-given (pixel_rows samples width height threshold row column) n p
       (go (first_applying (pixel_rows samples width height threshold row column)) e)
     where
-      go : (o : Outcome) → answered Refused (Judged (verdict_of samples width height threshold row column)) o ≡ Refused (record { number = n; place = p })
+      go : (o : Result Unit Refusal) → answered Err (Ok (verdict_of samples width height threshold row column)) o ≡ Err (record { number = n; place = p })
           → o ≡ refusal_of n p
-      go Accepted e = contradiction (cc)
-      go (Rattle.refusal.specs.declared.Outcome.TheVariants.Refused r) e = cc
+      go (Ok _) e = contradiction (cc)
+      go (Err r) e = cc
 
   pub judge-accepted : Silent (pixel_rows samples width height threshold row column)
-      → judgement_of samples width height threshold row column ≡ Judged (verdict_of samples width height threshold row column)
+      → judgement_of samples width height threshold row column ≡ Ok (verdict_of samples width height threshold row column)
   unfolding judgement_of
   judge-accepted s = rw (silent-accepted (pixel_rows samples width height threshold row column) s)
 
   -- in document 01's terms
   pub answers : judgement_answer (judgement_of samples width height threshold row column) ≡ answer_for samples width height threshold row column
   unfolding judgement_of answer_by
-  answers = answered-by Refused (Judged (verdict_of samples width height threshold row column)) judgement_answer _ (λ r. refl) refl
+  answers = answered-by Err (Ok (verdict_of samples width height threshold row column)) judgement_answer _ (λ r. refl) refl
       (pixel_rows samples width height threshold row column)
 
 -- ---- which pixels the list has, and in which order

@@ -1,12 +1,10 @@
 -- What a frame's call promises of its list, on every input: all that a layer above has to know of it. Assumes nothing.
 use Rattle.std.specs.Prelude.{◌≡◌, List, ◌++◌, ℕ, zero, suc, ◌*◌, ◌≤◌, ◌<◌, length, get_or}
 use Rattle.std.proofs.Math.Path.{refl}
-use Rattle.std.proofs.Common.{sym, ap, ◌∙◌, subst, zero-le}
+use Rattle.std.proofs.Common.{sym, subst, zero-le}
 use Rattle.std.proofs.Math.Decide.{dec_lt}
 use native.Mathlib.Omega.{arith}
 use Rattle.std.proofs.Math.ListN.{replicate, length-take, length-append, length-replicate, get_or-eq_default}
-use Rattle.refusal.specs.declared.Outcome.{Outcome}
-use Rattle.refusal.specs.declared.Outcome.TheVariants.{Accepted, Refused}
 use Rattle.refusal.specs.Table.{first_applying, answered}
 use Rattle.frame_centroid.specs.declared.Centroid.{Centroid}
 use Rattle.frame_list.specs.input.Input.{frame_rows}
@@ -15,6 +13,8 @@ use Rattle.frame_list.specs.declared.Report.{Report}
 use Rattle.frame_list.specs.Stars.{nought, nothing, measured_of, report_of}
 use Rattle.frame_list.specs.Calls.{listing_of}
 use Rattle.frame_list.specs.CallsLaws.{star-range, zeros-behind}
+use Rattle.std.specs.Prelude.{Result, Ok, Err}
+use Rattle.refusal.specs.declared.Refusal.{Refusal}
 
 -- at most eight stars in an array of eight, each where a position may be and with some brightness, and zeros behind them
 pub record Listed (r : Report) : Type 0 where
@@ -87,10 +87,10 @@ module _ (samples : List ℕ) (width height threshold : ℕ) where
   unfolding listing_of
   listing-listed = by (first_applying (frame_rows samples width height threshold)) refl
     where
-      by : (o : Outcome) → first_applying (frame_rows samples width height threshold) ≡ o
+      by : (o : Result Unit Refusal) → first_applying (frame_rows samples width height threshold) ≡ o
           → Listed (answered (λ r. nothing) (report_of samples width height threshold (height * width)) o)
-      by (Refused r) e = nothing-listed
-      by Accepted e =
+      by (Err r) e = nothing-listed
+      by (Ok _) e =
           let v = accepted-valid samples width height threshold e in
           report-listed samples width height threshold v.wide.1 v.high.1
 

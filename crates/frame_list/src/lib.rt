@@ -6,16 +6,11 @@ ghost use Rattle.frame_list.specs.Calls.{judgement_of, listing_of, judgement_ans
 
 use frame_centroid::Centroid;
 use frame_verdict::Verdict;
-use refusal::{Outcome, Refusal};
+use frame_window::{Frame, Pixel, Place};
+use refusal::Refusal;
 
 mod stars; // stars.rt: the list and the counts, pixel by pixel
 pub mod input;
-
-#[derive(Clone, Copy)]
-pub enum Judgement {
-    Refused(Refusal),
-    Judged(Verdict),
-}
 
 // The first count of stars are the list, and the rest are zeros; measured, edge and lone count the pixels of the whole frame.
 #[derive(Clone, Copy)]
@@ -27,14 +22,17 @@ pub struct Report {
     pub lone: usize,
 }
 
-// An array stands beside an enum and not in it. Where the call is refused the report is zeros.
+// Where the call is refused the report is zeros.
+// Stays: the outcome beside the report and no Result of it. `list-refused` says what the report then is, and the edit refused_with_a_count tries it.
 #[derive(Clone, Copy)]
 pub struct Listing {
-    pub outcome: Outcome,
+    pub outcome: Result<(), Refusal>,
     pub report: Report,
 }
 
 // The verdict on one pixel.
+// Stays: `judge`, `list` and the tests of `input` are what the calls for C hand their plain arguments to, before anything is known of them.
+#[tactic(auto, unfolding(crate::specs::Calls::judgement_of))]
 pub fn judge(
     samples: &[u16],
     width: usize,
@@ -42,33 +40,43 @@ pub fn judge(
     threshold: usize,
     row: usize,
     column: usize,
-) -> Judgement
+) -> Result<Verdict, Refusal>
     ensures value { result ≡ judgement_of samples.now width height threshold row column }
     ensures result_value { judgement_answer result ≡ answer_for samples.now width height threshold row column }
 {
-    let outcome = input::pixel_outcome(samples, width, height, threshold, row, column);
-    match outcome {
-        Outcome::Refused(refusal) => Judgement::Refused(refusal),
-        Outcome::Accepted => {
-            let judged = frame_verdict::verdict_at(samples, width, height, threshold, row, column);
-            Judgement::Judged(judged)
-        }
-    }
+    input::pixel_outcome(samples, width, height, threshold, row, column)?;
+    let frame = Frame {
+        samples,
+        width,
+        height,
+        threshold,
+    };
+    let place = Place { row, column };
+    Ok(frame_verdict::verdict_at(Pixel { frame, place }))
 }
 
 // The frame's list and counts.
+#[tactic(auto, unfolding(crate::specs::Calls::listing_of))]
 pub fn list(samples: &[u16], width: usize, height: usize, threshold: usize) -> Listing
     ensures { result ≡ listing_of samples.now width height threshold }
 {
     let outcome = input::frame_outcome(samples, width, height, threshold);
     match outcome {
-        Outcome::Refused(_) => Listing {
+        Err(_) => Listing {
             outcome,
             report: stars::none(),
         },
-        Outcome::Accepted => Listing {
-            outcome,
-            report: stars::report_of(samples, width, height, threshold),
-        },
+        Ok(()) => {
+            let frame = Frame {
+                samples,
+                width,
+                height,
+                threshold,
+            };
+            Listing {
+                outcome,
+                report: stars::report_of(frame),
+            }
+        }
     }
 }

@@ -1,19 +1,15 @@
 -- The reason is the true one: its kind is the verdict's on every input, and what it names did decide. Assumes nothing.
-use Rattle.std.specs.Prelude.{Bool, ◌||◌, ◌≡◌, List, [], ◌∷◌, ◌++◌, ℕ, ◌+◌, ◌-◌, ◌≤◌, ◌<◌, pos, take, replicate}
+use Rattle.std.specs.Prelude.{Bool, ◌≡◌, List, ℕ, ◌<◌}
 use Rattle.std.proofs.Math.Bool.{true, false, cond}
 use Rattle.std.proofs.Math.Path.{refl}
 use Rattle.std.proofs.Common.{sym, ap, ◌∙◌}
 use native.Mathlib.Omega.{arith}
-use Rattle.std.proofs.Math.Dec.{ltb}
-use borrow.Author.Tests.{ltb-true, ltb-false}
+use borrow.Author.Tests.{ltb-true}
 use Rattle.lists.specs.Contradiction.{contradiction}
-use Rattle.refusal.specs.declared.Outcome.{Outcome}
-use Rattle.refusal.specs.declared.Outcome.TheVariants as outcomes
 use Rattle.refusal.specs.Table.{first_applying, answered}
-use Rattle.refusal.specs.AnswerLaws.{answer_by, in-terms}
-use Rattle.refusal.proofs.AnswerLaws.{answered-by}
-use Rattle.frame_window.specs.declared.Beating.{Beating}
-use Rattle.frame_window.specs.declared.Beating.TheVariants.{At, Nothing}
+use Rattle.frame_window.specs.declared.Place.{Place}
+use Rattle.frame_window.specs.Window.{place_of}
+use Rattle.std.specs.Prelude.{Option, Some, None}
 use Rattle.frame_window.specs.Window.{at, beaten, first_beating}
 use Rattle.frame_window.specs.FirstLaws.{FirstAt, found-beaten, nothing-unbeaten}
 use Rattle.frame_window.proofs.FirstLaws.{first_says}
@@ -24,21 +20,18 @@ use Rattle.frame_centroid.specs.declared.Centroid.{Centroid}
 use Rattle.frame_verdict.specs.declared.Kind.TheVariants as kinds
 use Rattle.frame_verdict.specs.Verdict.{dark, edge, peak_kind, kind_of, verdict_of}
 use Rattle.frame_verdict.specs.Inside.{inside, amid}
-use Rattle.frame_verdict.specs.Laws.{MeasuredAs, LoneAs}
+use Rattle.frame_verdict.specs.Laws.{MeasuredAs}
 use Rattle.frame_verdict.proofs.Laws.{measured-as, lone-as}
 use Rattle.frame_list.specs.input.Input.{pixel_rows}
 use Rattle.frame_list.specs.Calls.{judgement_of}
-use Rattle.frame_list.specs.declared.Judgement.{Judgement}
-use Rattle.frame_list.specs.declared.Judgement.TheVariants as judgements
 use Rattle.frame_reason.specs.declared.Side.{Side}
-use Rattle.frame_reason.specs.declared.Side.TheVariants.{Left, Right, Top, Bottom}
 use Rattle.frame_reason.specs.declared.Reason.{Reason}
 use Rattle.frame_reason.specs.declared.Reason.TheVariants.{Dark, Beaten, Edge, Lone, Measured}
-use Rattle.frame_reason.specs.declared.Explanation.{Explanation}
-use Rattle.frame_reason.specs.declared.Explanation.TheVariants.{Refused, Given}
-use Rattle.frame_reason.specs.Side.{side_number, first_side}
-use Rattle.frame_reason.specs.Reason.{peak_reason, unless_beaten, reason_of, explanation_of, kind_in, values_in, named_by, explanation_answer, answer_for}
+use Rattle.frame_reason.specs.Side.{first_side}
+use Rattle.frame_reason.specs.Reason.{peak_reason, unless_beaten, reason_of, explanation_of, kind_in}
 use Rattle.frame_reason.specs.Laws.{judgement_in, FirstSide, side-says}
+use Rattle.std.specs.Prelude.{Result, Ok, Err}
+use Rattle.refusal.specs.declared.Refusal.{Refusal}
 
 module _ (samples : List ℕ) (width height threshold row column : ℕ) where
   pub peak-kind-is : kind_in (peak_reason samples width height threshold row column) ≡ peak_kind samples width height threshold row column
@@ -57,11 +50,11 @@ module _ (samples : List ℕ) (width height threshold row column : ℕ) where
   unfolding reason_of kind_of
   kind-is = by-dark (dark samples width threshold row column)
     where
-      by-look : (b : Beating) → first_beating samples width height row column ≡ b
+      by-look : (b : Option Place) → first_beating samples width height row column ≡ b
           → kind_in (unless_beaten (peak_reason samples width height threshold row column) b) ≡ cond (beaten samples width height row column) kinds.Beaten
           (peak_kind samples width height threshold row column)
-      by-look (At r c) e = rw (found-beaten samples width height row column r c e)
-      by-look Nothing e = rw (nothing-unbeaten samples width height row column e) peak-kind-is
+      by-look (Some p) e = rw (found-beaten samples width height row column p.row p.column e)
+      by-look None e = rw (nothing-unbeaten samples width height row column e) peak-kind-is
 
       by-dark : (d : Bool)
           → kind_in (cond d (Dark (at samples width row column) threshold) (unless_beaten (peak_reason samples width height threshold row column) (first_beating samples width height row column)))
@@ -75,17 +68,17 @@ pub judgement-is : (samples : List ℕ) (width height threshold row column : ℕ
 unfolding explanation_of judgement_of
 judgement-is samples width height threshold row column = go (first_applying (pixel_rows samples width height threshold row column))
   where
-    go : (o : Outcome)
-        → judgement_in row column (answered Refused (Given (reason_of samples width height threshold row column)) o)
-        ≡ answered judgements.Refused (judgements.Judged (verdict_of samples width height threshold row column)) o
-    go outcomes.Accepted = rw (kind-is samples width height threshold row column)
-    go (outcomes.Refused r) = refl
+    go : (o : Result Unit Refusal)
+        → judgement_in row column (answered Err (Ok (reason_of samples width height threshold row column)) o)
+        ≡ answered Err (Ok (verdict_of samples width height threshold row column)) o
+    go (Ok _) = rw (kind-is samples width height threshold row column)
+    go (Err r) = refl
 
 module _ (samples : List ℕ) (width height threshold row column : ℕ) where
   -- case by case: what holds of each reason under what decides for it holds of the rule's
   by-case : (P : Reason → Type 0)
       → (dark samples width threshold row column ≡ true → P (Dark (at samples width row column) threshold))
-      → ((r c : ℕ) → first_beating samples width height row column ≡ At r c → P (Beaten r c))
+      → ((r c : ℕ) → first_beating samples width height row column ≡ Some (place_of r c) → P (Beaten r c))
       → (edge width height row column ≡ true → P (Edge (first_side width height row column)))
       → (edge width height row column ≡ false → P (Lone (largest_beside samples width row column)))
       → P (Measured (centroid_of samples width row column))
@@ -95,17 +88,17 @@ module _ (samples : List ℕ) (width height threshold row column : ℕ) where
       go (dark samples width threshold row column) refl (first_beating samples width height row column) refl (edge width height row column) refl
       (lone samples width height threshold row column)
     where
-      go : (a : Bool) → dark samples width threshold row column ≡ a → (k : Beating) → first_beating samples width height row column ≡ k
+      go : (a : Bool) → dark samples width threshold row column ≡ a → (k : Option Place) → first_beating samples width height row column ≡ k
           → (x : Bool) → edge width height row column ≡ x → (y : Bool)
           → P (cond a (Dark (at samples width row column) threshold)
           (unless_beaten
           (cond x (Edge (first_side width height row column)) (cond y (Lone (largest_beside samples width row column))
           (Measured (centroid_of samples width row column)))) k))
       go true p k q x r y = d p
-      go false p (At j k) q x r y = b j k q
-      go false p Nothing q true r y = e r
-      go false p Nothing q false r true = l r
-      go false p Nothing q false r false = m
+      go false p (Some at) q x r y = b at.row at.column q
+      go false p None q true r y = e r
+      go false p None q false r true = l r
+      go false p None q false r false = m
 
   -- the sample and the threshold: the one does not reach the other
   pub dark-says : (s t : ℕ) → reason_of samples width height threshold row column ≡ Dark s t → (s ≡ at samples width row column) × (t ≡ threshold) × (s < t)
@@ -126,7 +119,7 @@ module _ (samples : List ℕ) (width height threshold row column : ℕ) where
       by-case (λ x. x ≡ Beaten r c → FirstAt samples width height row column r c)
       (λ d e. contradiction (cc))
       (λ j k f e.
-      let p : At j k ≡ At r c = cc in
+      let p : Some (place_of j k) ≡ Some (place_of r c) = cc in
       first_says samples width height row column r c (f ∙ p))
       (λ f e. contradiction (cc))
       (λ f e. contradiction (cc))

@@ -1,61 +1,43 @@
 -- The reason is the true one: its kind is the verdict's on every input, and what it names did decide. Assumes nothing.
-use Rattle.std.specs.Prelude.{Bool, ◌||◌, ◌≡◌, List, [], ◌∷◌, ◌++◌, ℕ, ◌+◌, ◌-◌, ◌≤◌, ◌<◌, pos, take, replicate}
+use Rattle.std.specs.Prelude.{Bool, ◌||◌, ◌≡◌, List, [], ◌∷◌, ◌++◌, ℕ, ◌-◌, ◌<◌, pos, take, replicate}
 use Rattle.std.proofs.Math.Bool.{true, false, cond}
 use Rattle.std.proofs.Math.Path.{refl}
-use Rattle.std.proofs.Common.{sym, ap, ◌∙◌}
 use native.Mathlib.Omega.{arith}
 use Rattle.std.proofs.Math.Dec.{ltb}
 use borrow.Author.Tests.{ltb-true, ltb-false}
 use Rattle.lists.specs.Contradiction.{contradiction}
-use Rattle.refusal.specs.declared.Outcome.{Outcome}
-use Rattle.refusal.specs.declared.Outcome.TheVariants as outcomes
 use Rattle.refusal.specs.Table.{first_applying, answered}
 use Rattle.refusal.specs.AnswerLaws.{answer_by, in-terms}
 use Rattle.refusal.proofs.AnswerLaws.{answered-by}
-use Rattle.frame_window.specs.declared.Beating.{Beating}
-use Rattle.frame_window.specs.declared.Beating.TheVariants.{At, Nothing}
-use Rattle.frame_window.specs.Window.{at, beaten, first_beating}
-use Rattle.frame_window.specs.FirstLaws.{FirstAt, found-beaten, nothing-unbeaten}
-use Rattle.frame_window.proofs.FirstLaws.{first_says}
-use Rattle.frame_window.specs.neighbours.Neighbours.{half, lone, largest_beside}
-use Rattle.frame_window.specs.neighbours.Laws.{LargestBeside, largest-is}
-use Rattle.frame_centroid.specs.Centroid.{centroid_of}
-use Rattle.frame_centroid.specs.declared.Centroid.{Centroid}
-use Rattle.frame_verdict.specs.declared.Kind.TheVariants as kinds
-use Rattle.frame_verdict.specs.Verdict.{dark, edge, peak_kind, kind_of, verdict_of}
-use Rattle.frame_verdict.specs.Inside.{inside, amid}
-use Rattle.frame_verdict.specs.Laws.{MeasuredAs, LoneAs}
-use Rattle.frame_verdict.proofs.Laws.{measured-as, lone-as}
+use Rattle.frame_verdict.specs.Verdict.{edge}
 use Rattle.frame_list.specs.input.Input.{pixel_rows}
-use Rattle.frame_list.specs.Calls.{judgement_of}
-use Rattle.frame_list.specs.declared.Judgement.{Judgement}
-use Rattle.frame_list.specs.declared.Judgement.TheVariants as judgements
 use Rattle.frame_reason.specs.declared.Side.{Side}
 use Rattle.frame_reason.specs.declared.Side.TheVariants.{Left, Right, Top, Bottom}
 use Rattle.frame_reason.specs.declared.Reason.{Reason}
 use Rattle.frame_reason.specs.declared.Reason.TheVariants.{Dark, Beaten, Edge, Lone, Measured}
-use Rattle.frame_reason.specs.declared.Explanation.{Explanation}
-use Rattle.frame_reason.specs.declared.Explanation.TheVariants.{Refused, Given}
 use Rattle.frame_reason.specs.Side.{side_number, first_side}
-use Rattle.frame_reason.specs.Reason.{peak_reason, unless_beaten, reason_of, explanation_of, kind_in, values_in, named_by, explanation_answer, answer_for}
+use Rattle.frame_reason.specs.Reason.{reason_of, explanation_of, kind_in, values_in, named_by, explanation_answer, answer_for}
+use Rattle.std.specs.Prelude.{Result, Ok, Err}
+use Rattle.refusal.specs.declared.Refusal.{Refusal}
+use Rattle.frame_verdict.specs.declared.Verdict.{Verdict}
 
 -- ---- the kind is the verdict's
 
 -- the verdict call's answer that an explanation stands for
-abbrev pub judgement_in : ℕ → ℕ → Explanation → Judgement
-judgement_in row column (Refused r) = judgements.Refused r
-judgement_in row column (Given reason) = judgements.Judged (record { row = row; column = column; kind = kind_in reason })
+abbrev pub judgement_in : ℕ → ℕ → Result Reason Refusal → Result Verdict Refusal
+judgement_in row column (Err r) = Err r
+judgement_in row column (Ok reason) = Ok (record { row = row; column = column; kind = kind_in reason })
 
 -- a reason that is given is the rule's
 pub given_is : (samples : List ℕ) (width height threshold row column : ℕ) (reason : Reason)
-    → explanation_of samples width height threshold row column ≡ Given reason → reason ≡ reason_of samples width height threshold row column
+    → explanation_of samples width height threshold row column ≡ Ok reason → reason ≡ reason_of samples width height threshold row column
 unfolding explanation_of
 given_is samples width height threshold row column reason = go (first_applying (pixel_rows samples width height threshold row column))
   where
-    go : (o : Outcome) → answered Refused (Given (reason_of samples width height threshold row column)) o ≡ Given reason
+    go : (o : Result Unit Refusal) → answered Err (Ok (reason_of samples width height threshold row column)) o ≡ Ok reason
         → reason ≡ reason_of samples width height threshold row column
-    go outcomes.Accepted e = cc
-    go (outcomes.Refused r) e = contradiction (cc)
+    go (Ok _) e = cc
+    go (Err r) e = contradiction (cc)
 
 -- ---- the side that is named
 
@@ -107,11 +89,11 @@ module _ (width height row column : ℕ) where
 
 -- ---- in document 01's terms
 
-pub told : (samples : List ℕ) (width height threshold row column : ℕ) {e : Explanation} → e ≡ explanation_of samples width height threshold row column
+pub told : (samples : List ℕ) (width height threshold row column : ℕ) {e : Result Reason Refusal} → e ≡ explanation_of samples width height threshold row column
     → (e ≡ explanation_of samples width height threshold row column) × (explanation_answer e ≡ answer_for samples width height threshold row column)
 unfolding explanation_of answer_by
 told samples width height threshold row column p =
-    in-terms explanation_answer p (answered-by Refused (Given (reason_of samples width height threshold row column)) explanation_answer _ (λ r. refl) refl
+    in-terms explanation_answer p (answered-by Err (Ok (reason_of samples width height threshold row column)) explanation_answer _ (λ r. refl) refl
     (pixel_rows samples width height threshold row column))
 
 -- the three numbers that C is handed are what the reason names, and zeros behind

@@ -2,8 +2,8 @@
 use Rattle.std.specs.Prelude.{cond, List, [], ◌∷◌, ℕ, ℤ, pos}
 use Rattle.refusal.specs.Table.{first_applying, answered}
 use Rattle.refusal.specs.Answer.{Answer, refused_with, accepted_with}
-use Rattle.frame_window.specs.declared.Beating.{Beating}
-use Rattle.frame_window.specs.declared.Beating.TheVariants.{At, Nothing}
+use Rattle.frame_window.specs.declared.Place.{Place}
+use Rattle.std.specs.Prelude.{Option, Some, None}
 use Rattle.frame_window.specs.Window.{at, first_beating}
 use Rattle.frame_window.specs.neighbours.Neighbours.{lone, largest_beside}
 use Rattle.frame_centroid.specs.Centroid.{centroid_of}
@@ -13,10 +13,10 @@ use Rattle.frame_verdict.specs.Verdict.{dark, edge, kind_number}
 use Rattle.frame_list.specs.input.Input.{pixel_rows, pixel_answer}
 use Rattle.frame_reason.specs.declared.Reason.{Reason}
 use Rattle.frame_reason.specs.declared.Reason.TheVariants.{Dark, Beaten, Edge, Lone, Measured}
-use Rattle.frame_reason.specs.declared.Explanation.{Explanation}
-use Rattle.frame_reason.specs.declared.Explanation.TheVariants.{Refused, Given}
 use Rattle.frame_reason.specs.declared.Values.{Values}
 use Rattle.frame_reason.specs.Side.{side_number, first_side}
+use Rattle.std.specs.Prelude.{Result, Ok, Err}
+use Rattle.refusal.specs.declared.Refusal.{Refusal}
 
 -- of a pixel that is neither dark nor beaten: the first broken side; lone, with the largest sample among the eight; or measured, with its centroid
 unfoldable pub peak_reason : List ℕ → ℕ → ℕ → ℕ → ℕ → ℕ → Reason
@@ -26,9 +26,9 @@ peak_reason samples width height threshold row column =
     (Measured (centroid_of samples width row column)))
 
 -- the pixel that beats it first, or another reason where none does
-abbrev pub unless_beaten : Reason → Beating → Reason
-unless_beaten other (At r c) = Beaten r c
-unless_beaten other Nothing = other
+abbrev pub unless_beaten : Reason → Option Place → Reason
+unless_beaten other (Some p) = Beaten p.row p.column
+unless_beaten other None = other
 
 -- the tests in the verdict's order: dark, with the sample and the threshold; beaten, with the first pixel in row order of its window that beats it
 unfoldable pub reason_of : List ℕ → ℕ → ℕ → ℕ → ℕ → ℕ → Reason
@@ -37,9 +37,9 @@ reason_of samples width height threshold row column =
     (unless_beaten (peak_reason samples width height threshold row column) (first_beating samples width height row column))
 
 -- the reason, or the refusal
-unfoldable pub explanation_of : List ℕ → ℕ → ℕ → ℕ → ℕ → ℕ → Explanation
+unfoldable pub explanation_of : List ℕ → ℕ → ℕ → ℕ → ℕ → ℕ → Result Reason Refusal
 explanation_of samples width height threshold row column =
-    answered Refused (Given (reason_of samples width height threshold row column)) (first_applying (pixel_rows samples width height threshold row column))
+    answered Err (Ok (reason_of samples width height threshold row column)) (first_applying (pixel_rows samples width height threshold row column))
 
 -- ---- a reason in numbers
 
@@ -77,9 +77,9 @@ named_by (Measured c) = pos c.x ∷ (pos c.y ∷ (pos c.brightness ∷ []))
 abbrev pub reason_values : Reason → List ℤ
 reason_values reason = pos (reason_number reason) ∷ named_by reason
 
-abbrev pub explanation_answer : Explanation → Answer
-explanation_answer (Refused r) = refused_with r.number r.place
-explanation_answer (Given reason) = accepted_with (reason_values reason)
+abbrev pub explanation_answer : Result Reason Refusal → Answer
+explanation_answer (Err r) = refused_with r.number r.place
+explanation_answer (Ok reason) = accepted_with (reason_values reason)
 
 -- the answer that a pixel of a frame must have
 abbrev pub answer_for : List ℕ → ℕ → ℕ → ℕ → ℕ → ℕ → Answer

@@ -1,7 +1,7 @@
 // Why a pixel is not a star: the verdict's kind, with what decided it.
 #![tactic(auto)]
 
-ghost use Rattle.std.specs.Prelude.{◌≡◌, false, ◌*◌, ◌<◌, ◌≤◌, length};
+ghost use Rattle.std.specs.Prelude.{◌≡◌, false, ◌≤◌};
 ghost use Rattle.frame_window.specs.Window.{beaten};
 ghost use Rattle.frame_reason.specs.Side.{first_side, side_number};
 ghost use Rattle.frame_reason.specs.Reason.{peak_reason, reason_of, explanation_of, kind_in, reason_number, values_in, explanation_answer, answer_for};
@@ -9,8 +9,8 @@ ghost use Rattle.frame_reason.specs.Reason.{peak_reason, reason_of, explanation_
 use frame_centroid::Centroid;
 use frame_list::input;
 use frame_verdict::Kind;
-use frame_window::{Beating, neighbours};
-use refusal::{Outcome, Refusal};
+use frame_window::{Frame, Pixel, Place, neighbours};
+use refusal::Refusal;
 
 // A side of the frame.
 #[derive(Clone, Copy)]
@@ -34,12 +34,6 @@ pub enum Reason {
     Measured(Centroid),
 }
 
-#[derive(Clone, Copy)]
-pub enum Explanation {
-    Refused(Refusal),
-    Given(Reason),
-}
-
 // What a reason names, in numbers: zeros where it names fewer than three.
 #[derive(Clone, Copy)]
 pub struct Values {
@@ -52,15 +46,11 @@ pub struct Values {
 pub fn side_number(side: Side) -> u32
     ensures { result ≡ side_number side }
 {
-    match side {
-        Side::Left => 0,
-        Side::Right => 1,
-        Side::Top => 2,
-        Side::Bottom => 3,
-    }
+    side as u32
 }
 
 // The verdict's kind that a reason is for.
+// Stays: the new form is no plainer. A `From` would hold this match, and the call is promised by this name.
 pub fn kind_of(reason: Reason) -> Kind
     ensures { result ≡ kind_in reason }
 {
@@ -85,7 +75,7 @@ pub fn values_of(reason: Reason) -> Values
 {
     match reason {
         Reason::Dark(sample, threshold) => Values {
-            first: sample as u64,
+            first: u64::from(sample),
             second: threshold as u64,
             third: 0,
         },
@@ -95,12 +85,12 @@ pub fn values_of(reason: Reason) -> Values
             third: 0,
         },
         Reason::Edge(side) => Values {
-            first: side_number(side) as u64,
+            first: u64::from(side_number(side)),
             second: 0,
             third: 0,
         },
         Reason::Lone(largest) => Values {
-            first: largest as u64,
+            first: u64::from(largest),
             second: 0,
             third: 0,
         },
@@ -112,16 +102,17 @@ pub fn values_of(reason: Reason) -> Values
     }
 }
 
-// Of the sides that are too near a pixel, the first in the order left, right, top, bottom.
+// Of the sides that are too near the pixel, the first in the order left, right, top, bottom.
 #[tactic(auto, unfolding(crate::specs::Side::first_side))]
-fn first_side(width: usize, height: usize, row: usize, column: usize) -> Side
-    requires { (row < height) × (column < width) }
-    ensures { result ≡ first_side width height row column }
+fn first_side(pixel: Pixel) -> Side
+    ensures { let p = pixel.entry in result ≡ first_side p.frame.width p.frame.height p.place.row p.place.column }
 {
+    let frame = pixel.frame;
+    let Place { row, column } = pixel.place;
     if column < 3 {
         return Side::Left;
     }
-    if width - 1 - column < 3 {
+    if frame.width - 1 - column < 3 {
         return Side::Right;
     }
     if row < 3 {
@@ -131,50 +122,38 @@ fn first_side(width: usize, height: usize, row: usize, column: usize) -> Side
 }
 
 // The reason for a pixel that is neither dark nor beaten: one that is neither lone nor measured is at the edge.
-fn peak_reason(
-    samples: &[u16],
-    width: usize,
-    height: usize,
-    threshold: usize,
-    row: usize,
-    column: usize,
-) -> Reason
-    requires { (length samples.now ≡ height * width) × (row < height) × (column < width) × (height ≤ 1024) × (width ≤ 1024)
-        × (beaten samples.now width height row column ≡ false) }
-    ensures { result ≡ peak_reason samples.now width height threshold row column }
+#[tactic(auto, unfolding(crate::specs::Reason::peak_reason, frame_verdict::specs::Verdict::peak_kind))]
+fn peak_reason(pixel: Pixel) -> Reason
+    requires { let p = pixel in (p.frame.height ≤ 1024) × (p.frame.width ≤ 1024)
+        × (beaten p.frame.samples.now p.frame.width p.frame.height p.place.row p.place.column ≡ false) }
+    ensures { let p = pixel.entry in result ≡ peak_reason p.frame.samples.now p.frame.width p.frame.height p.frame.threshold p.place.row p.place.column }
 {
-    let kind = frame_verdict::peak_kind(samples, width, height, threshold, row, column);
-    match kind {
+    match frame_verdict::peak_kind(pixel) {
         Kind::Measured(centroid) => Reason::Measured(centroid),
-        Kind::Lone => Reason::Lone(neighbours::largest_beside(samples, width, height, row, column)),
-        _ => Reason::Edge(first_side(width, height, row, column)),
+        Kind::Lone => Reason::Lone(neighbours::largest_beside(pixel)),
+        _ => Reason::Edge(first_side(pixel)),
     }
 }
 
 // The tests in the verdict's order, and the same look through the window.
-fn reason_at(
-    samples: &[u16],
-    width: usize,
-    height: usize,
-    threshold: usize,
-    row: usize,
-    column: usize,
-) -> Reason
-    requires { (length samples.now ≡ height * width) × (row < height) × (column < width) × (height ≤ 1024) × (width ≤ 1024) }
-    ensures { result ≡ reason_of samples.now width height threshold row column }
+#[tactic(auto, unfolding(crate::specs::Reason::reason_of, frame_window::specs::Window::first_beating))]
+fn reason_at(pixel: Pixel) -> Reason
+    requires { (pixel.frame.height ≤ 1024) × (pixel.frame.width ≤ 1024) }
+    ensures { let p = pixel.entry in result ≡ reason_of p.frame.samples.now p.frame.width p.frame.height p.frame.threshold p.place.row p.place.column }
 {
-    let sample = frame_window::sample(samples, width, height, row, column);
-    if (sample as usize) < threshold {
-        return Reason::Dark(sample, threshold);
+    let Pixel { frame, place, .. } = pixel;
+    let sample = frame_window::sample(frame, place.row, place.column);
+    if usize::from(sample) < frame.threshold {
+        return Reason::Dark(sample, frame.threshold);
     }
-    let beating = frame_window::first_beating(samples, width, height, row, column);
-    match beating {
-        Beating::At(r, c) => Reason::Beaten(r, c),
-        Beating::Nothing => peak_reason(samples, width, height, threshold, row, column),
+    match frame_window::first_beating(pixel) {
+        Some(other) => Reason::Beaten(other.row, other.column),
+        None => peak_reason(pixel),
     }
 }
 
 // Why the pixel at row, column is not a star, or that it is one.
+#[tactic(auto, unfolding(crate::specs::Reason::explanation_of))]
 pub fn explain(
     samples: &[u16],
     width: usize,
@@ -182,16 +161,17 @@ pub fn explain(
     threshold: usize,
     row: usize,
     column: usize,
-) -> Explanation
+) -> Result<Reason, Refusal>
     ensures value { result ≡ explanation_of samples.now width height threshold row column }
     ensures result_value { explanation_answer result ≡ answer_for samples.now width height threshold row column }
 {
-    let outcome = input::pixel_outcome(samples, width, height, threshold, row, column);
-    match outcome {
-        Outcome::Refused(refusal) => Explanation::Refused(refusal),
-        Outcome::Accepted => {
-            let reason = reason_at(samples, width, height, threshold, row, column);
-            Explanation::Given(reason)
-        }
-    }
+    input::pixel_outcome(samples, width, height, threshold, row, column)?;
+    let frame = Frame {
+        samples,
+        width,
+        height,
+        threshold,
+    };
+    let place = Place { row, column };
+    Ok(reason_at(Pixel { frame, place }))
 }

@@ -8,8 +8,7 @@ use Rattle.lists.specs.Contradiction.{contradiction}
 use Rattle.frame_window.specs.Window.{beaten}
 use Rattle.frame_window.specs.Laws.{Earlier, InWindow}
 use Rattle.frame_window.proofs.Unbeaten.{none-larger, earlier-smaller}
-use Rattle.frame_verdict.specs.declared.Kind.{Kind}
-use Rattle.frame_verdict.specs.declared.Kind.TheVariants.{Dark, Beaten, Edge, Lone, Measured}
+use Rattle.frame_verdict.specs.declared.Kind.TheVariants.{Dark, Beaten}
 use Rattle.frame_verdict.specs.Verdict.{dark, peak_kind, kind_of}
 use Rattle.frame_verdict.specs.Apart.{is_peak}
 

@@ -1,19 +1,19 @@
 -- What a verdict says of its pixel. Assumes nothing.
-use Rattle.std.specs.Prelude.{Bool, ◌&&◌, List, ℕ, ◌≤◌, ◌<◌}
+use Rattle.std.specs.Prelude.{Bool, ◌&&◌, List, ℕ, ◌≤◌}
 use Rattle.std.proofs.Math.Bool.{true, false, cond, not}
 use Rattle.std.proofs.Math.Path.{◌≡◌, refl, ap}
 use Rattle.std.proofs.Common.{sym, ◌∙◌, arith}
 use borrow.Author.Tests.{ltb-false}
 use Rattle.lists.specs.Contradiction.{contradiction}
 use Rattle.frame_window.specs.Window.{at, beaten}
-use Rattle.frame_window.specs.neighbours.Neighbours.{half, lone}
-use Rattle.frame_window.specs.neighbours.Laws.{Beside, LitBy, lone-says, lit-says, never-at-one}
+use Rattle.frame_window.specs.neighbours.Neighbours.{lone}
+use Rattle.frame_window.specs.neighbours.Laws.{lone-says, lit-says, never-at-one}
 use Rattle.frame_centroid.specs.Centroid.{brightness, centroid_of}
 use Rattle.frame_centroid.specs.Range.{x-close, y-close}
 use Rattle.frame_centroid.specs.declared.Centroid.{Centroid}
 use Rattle.frame_verdict.specs.declared.Kind.TheVariants.{Dark, Beaten, Edge, Lone, Measured}
 use Rattle.frame_verdict.specs.Verdict.{dark, edge, peak, peak_kind, kind_of}
-use Rattle.frame_verdict.specs.Inside.{Inside, inside, amid}
+use Rattle.frame_verdict.specs.Inside.{inside, amid}
 use Rattle.frame_verdict.proofs.Bright as light
 use Rattle.frame_verdict.specs.Laws.{MeasuredAs, LoneAs}
 

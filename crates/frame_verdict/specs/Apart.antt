@@ -1,16 +1,9 @@
 -- Pixels that could be stars stand apart, on every frame: two different pixels within 3 rows and 3 columns of each other are not both edge, lone
 -- or measured, for of the two the earlier is beaten where the later is larger, and the later where it is not. Assumes nothing.
-use Rattle.std.specs.Prelude.{Bool, cond, ◌≡◌, List, ℕ, ◌<◌, ltb}
+use Rattle.std.specs.Prelude.{Bool}
 use Rattle.std.proofs.Math.Bool.{true, false}
-use Rattle.std.proofs.Math.Path.{refl}
-use Rattle.std.proofs.Common.{inl, inr, arith, ltb-true, ltb-false}
-use Rattle.lists.specs.Contradiction.{contradiction}
-use Rattle.frame_window.specs.Window.{beaten}
-use Rattle.frame_window.specs.Laws.{Earlier, InWindow}
-use Rattle.frame_window.proofs.Unbeaten.{none-larger, earlier-smaller}
 use Rattle.frame_verdict.specs.declared.Kind.{Kind}
 use Rattle.frame_verdict.specs.declared.Kind.TheVariants.{Dark, Beaten, Edge, Lone, Measured}
-use Rattle.frame_verdict.specs.Verdict.{dark, peak_kind, kind_of}
 
 -- the verdicts of a pixel that is neither dark nor beaten
 abbrev pub is_peak : Kind → Bool

@@ -1,15 +1,9 @@
 -- What is measured has some brightness, on every frame. No pixel of its window beats it, so none there is larger; those of the top border are earlier,
 -- so each of them is smaller. The border's 24 samples then come to less than 24 times its own, and its own weight is above 0. Assumes nothing.
-use Rattle.std.specs.Prelude.{Bool, true, false, ◌≡◌, refl, List, ℕ, zero, suc, ◌+◌, ◌-◌, ◌*◌, ◌≤◌, ◌<◌, ltb}
-use Rattle.std.proofs.Common.{inl, not-suc-le-zero, suc-mul, ltb-true, ltb-false}
+use Rattle.std.specs.Prelude.{ℕ, zero, suc, ◌*◌, ◌≤◌, ◌<◌}
+use Rattle.std.proofs.Common.{suc-mul}
 use native.Mathlib.Omega.{arith}
-use Rattle.frame_window.specs.Window.{at, beaten}
-use Rattle.frame_window.specs.Laws.{InWindow}
-use Rattle.frame_window.proofs.Unbeaten.{none-larger, earlier-smaller}
 use Rattle.frame_centroid.specs.Sums.{sum_below}
-use Rattle.frame_centroid.specs.Border.{border, border_sum, sampled, table-sum, row_below, column-below}
-use Rattle.frame_centroid.specs.Centroid.{weight, brightness}
-use Rattle.frame_verdict.specs.Inside.{Inside}
 
 -- ---- sums of numbers that are at most p
 

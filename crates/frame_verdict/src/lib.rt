@@ -1,12 +1,12 @@
 // The verdict on one pixel: the first that applies of dark, beaten, edge, lone and measured.
 #![tactic(auto)]
 
-ghost use Rattle.std.specs.Prelude.{◌≡◌, false, ◌*◌, ◌<◌, ◌≤◌, length};
+ghost use Rattle.std.specs.Prelude.{◌≡◌, false, ◌≤◌};
 ghost use Rattle.frame_window.specs.Window.{beaten};
 ghost use Rattle.frame_verdict.specs.Verdict.{dark, edge, peak, peak_kind, kind_of, verdict_of, kind_number};
 
-use frame_centroid::Centroid;
-use frame_window::neighbours;
+use frame_centroid::{Centroid, Window};
+use frame_window::{Pixel, Place, neighbours};
 
 #[derive(Clone, Copy)]
 pub enum Kind {
@@ -25,6 +25,7 @@ pub struct Verdict {
 }
 
 // The number by which tables and files name a kind.
+// Stays: the new form is no plainer. A kind may hold a centroid, so no cast numbers the kinds, and a `From` would hold this match.
 pub fn kind_number(kind: Kind) -> u32
     ensures { result ≡ kind_number kind }
 {
@@ -38,113 +39,72 @@ pub fn kind_number(kind: Kind) -> u32
 }
 
 // Whether the pixel's sample is below the threshold.
-fn is_dark(
-    samples: &[u16],
-    width: usize,
-    height: usize,
-    threshold: usize,
-    row: usize,
-    column: usize,
-) -> bool
-    requires { (length samples.now ≡ height * width) × (row < height) × (column < width) }
-    ensures { result ≡ dark samples.now width threshold row column }
+fn is_dark(pixel: Pixel) -> bool
+    ensures { let p = pixel.entry in result ≡ dark p.frame.samples.now p.frame.width p.frame.threshold p.place.row p.place.column }
 {
-    (frame_window::sample(samples, width, height, row, column) as usize) < threshold
+    let Pixel { frame, place, .. } = pixel;
+    usize::from(frame_window::sample(frame, place.row, place.column)) < frame.threshold
 }
 
 // Whether fewer than 3 columns or rows lie between the pixel and a side.
 #[tactic(auto, unfolding(crate::specs::Verdict::edge))]
-fn is_edge(width: usize, height: usize, row: usize, column: usize) -> bool
-    requires { (row < height) × (column < width) }
-    ensures { result ≡ edge width height row column }
+fn is_edge(pixel: Pixel) -> bool
+    ensures { let p = pixel.entry in result ≡ edge p.frame.width p.frame.height p.place.row p.place.column }
 {
-    if column < 3 {
-        return true;
-    }
-    if width - 1 - column < 3 {
-        return true;
-    }
-    if row < 3 {
-        return true;
-    }
-    height - 1 - row < 3
+    let frame = pixel.frame;
+    let Place { row, column } = pixel.place;
+    column < 3 || frame.width - 1 - column < 3 || row < 3 || frame.height - 1 - row < 3
 }
 
 // Whether the pixel is neither dark nor beaten. A dark one costs the test against the threshold and no more.
-pub fn is_peak(
-    samples: &[u16],
-    width: usize,
-    height: usize,
-    threshold: usize,
-    row: usize,
-    column: usize,
-) -> bool
-    requires { (length samples.now ≡ height * width) × (row < height) × (column < width) }
-    ensures { result ≡ peak samples.now width height threshold row column }
+#[tactic(auto, unfolding(crate::specs::Verdict::peak))]
+pub fn is_peak(pixel: Pixel) -> bool
+    ensures { let p = pixel.entry in result ≡ peak p.frame.samples.now p.frame.width p.frame.height p.frame.threshold p.place.row p.place.column }
 {
-    if is_dark(samples, width, height, threshold, row, column) {
-        return false;
-    }
-    !frame_window::is_beaten(samples, width, height, row, column)
+    !is_dark(pixel) && !frame_window::is_beaten(pixel)
 }
 
 // The kind of a pixel that is neither dark nor beaten. Where it is no edge it has all its neighbours, and its brightness is above 0 (`bright` of
 // specs/Bright), so the position's quotients exist.
-pub fn peak_kind(
-    samples: &[u16],
-    width: usize,
-    height: usize,
-    threshold: usize,
-    row: usize,
-    column: usize,
-) -> Kind
-    requires { (length samples.now ≡ height * width) × (row < height) × (column < width) × (height ≤ 1024) × (width ≤ 1024)
-        × (beaten samples.now width height row column ≡ false) }
-    ensures { result ≡ peak_kind samples.now width height threshold row column }
+// Stays: the new form is no plainer. The look and `is_peak` take a frame of any size, so that sides of at most 1,024 as a type's invariant would need a
+// second type about `Frame` and a third about `Pixel`.
+#[tactic(auto, unfolding(crate::specs::Verdict::peak_kind))]
+pub fn peak_kind(pixel: Pixel) -> Kind
+    requires { let p = pixel in (p.frame.height ≤ 1024) × (p.frame.width ≤ 1024)
+        × (beaten p.frame.samples.now p.frame.width p.frame.height p.place.row p.place.column ≡ false) }
+    ensures { let p = pixel.entry in result ≡ peak_kind p.frame.samples.now p.frame.width p.frame.height p.frame.threshold p.place.row p.place.column }
 {
-    if is_edge(width, height, row, column) {
+    if is_edge(pixel) {
         return Kind::Edge;
     }
-    if neighbours::is_lone(samples, width, height, threshold, row, column) {
+    if neighbours::is_lone(pixel) {
         return Kind::Lone;
     }
-    let moments = frame_centroid::moments_at(samples, width, height, row, column);
-    Kind::Measured(frame_centroid::from_moments(row, column, moments))
+    let moments = frame_centroid::moments_at(Window { middle: pixel });
+    Kind::Measured(frame_centroid::from_moments(pixel.place, moments))
 }
 
-// The kind of the pixel at row, column: the first that applies.
-fn kind_at(
-    samples: &[u16],
-    width: usize,
-    height: usize,
-    threshold: usize,
-    row: usize,
-    column: usize,
-) -> Kind
-    requires { (length samples.now ≡ height * width) × (row < height) × (column < width) × (height ≤ 1024) × (width ≤ 1024) }
-    ensures { result ≡ kind_of samples.now width height threshold row column }
+// The kind of the pixel: the first that applies.
+#[tactic(auto, unfolding(crate::specs::Verdict::kind_of))]
+fn kind_at(pixel: Pixel) -> Kind
+    requires { (pixel.frame.height ≤ 1024) × (pixel.frame.width ≤ 1024) }
+    ensures { let p = pixel.entry in result ≡ kind_of p.frame.samples.now p.frame.width p.frame.height p.frame.threshold p.place.row p.place.column }
 {
-    if is_dark(samples, width, height, threshold, row, column) {
+    if is_dark(pixel) {
         return Kind::Dark;
     }
-    if frame_window::is_beaten(samples, width, height, row, column) {
+    if frame_window::is_beaten(pixel) {
         return Kind::Beaten;
     }
-    peak_kind(samples, width, height, threshold, row, column)
+    peak_kind(pixel)
 }
 
-// The verdict on the pixel at row, column.
-pub fn verdict_at(
-    samples: &[u16],
-    width: usize,
-    height: usize,
-    threshold: usize,
-    row: usize,
-    column: usize,
-) -> Verdict
-    requires { (length samples.now ≡ height * width) × (row < height) × (column < width) × (height ≤ 1024) × (width ≤ 1024) }
-    ensures { result ≡ verdict_of samples.now width height threshold row column }
+// The verdict on the pixel.
+pub fn verdict_at(pixel: Pixel) -> Verdict
+    requires { (pixel.frame.height ≤ 1024) × (pixel.frame.width ≤ 1024) }
+    ensures { let p = pixel.entry in result ≡ verdict_of p.frame.samples.now p.frame.width p.frame.height p.frame.threshold p.place.row p.place.column }
 {
-    let kind = kind_at(samples, width, height, threshold, row, column);
+    let Place { row, column } = pixel.place;
+    let kind = kind_at(pixel);
     Verdict { row, column, kind }
 }

@@ -1,17 +1,16 @@
 -- What `first_beating` names: the first pixel in row order of the window, cut to the frame, that beats another; and nothing exactly where the
 -- pixel is not beaten. Assumes nothing.
-use Rattle.std.specs.Prelude.{Bool, ◌≡◌, List, ℕ, ◌+◌, ◌-◌, ◌≤◌, ◌<◌, min}
-use Rattle.std.proofs.Math.Bool.{true, false, cond}
+use Rattle.std.specs.Prelude.{Bool, ◌≡◌, List, ℕ, ◌<◌, Some}
+use Rattle.std.proofs.Math.Bool.{true, false}
 use Rattle.std.proofs.Math.Path.{refl}
 use Rattle.std.proofs.Common.{ap, ◌∙◌, inl, inr, ⊎_elim, arith}
 use Rattle.std.proofs.Math.Decide.{dec_lt}
 use Rattle.lists.specs.Contradiction.{contradiction}
 use Rattle.lists.specs.First.{First, first}
-use Rattle.lists.proofs.First.{first-is, first_of}
-use Rattle.frame_window.specs.declared.Beating.{Beating}
-use Rattle.frame_window.specs.declared.Beating.TheVariants.{At, Nothing}
-use Rattle.frame_window.specs.Window.{beats, hits, row_hits, beaten, beating_row, beating_column, first_beating}
-use Rattle.frame_window.specs.Laws.{some-here, some-not, some-found, hit, miss, row-misses, by-pixel, by-none, beats-says, says-beats, Earlier, InWindow, Wins}
+use Rattle.lists.proofs.First.{first-is}
+use Rattle.frame_window.specs.declared.Place.{Place}
+use Rattle.frame_window.specs.Window.{beats, hits, row_hits, beaten, beating_row, beating_column, place_of, first_beating}
+use Rattle.frame_window.specs.Laws.{some-not, some-found, hit, beats-says, says-beats, Earlier, InWindow, Wins}
 use Rattle.frame_window.proofs.Laws.{hit-says}
 use Rattle.frame_window.specs.FirstLaws.{first-there, found-beaten, FirstAt}
 
@@ -63,19 +62,20 @@ module _ (samples : List ℕ) (width height row column : ℕ) where
             (first-is (λ r. row_hits samples width row column r) height) (first-is (λ c. hits samples width row column r c) width);
       }
 
-  pub first_says : (r c : ℕ) → first_beating samples width height row column ≡ At r c → FirstAt samples width height row column r c
+  pub first_says : (r c : ℕ) → first_beating samples width height row column ≡ Some (place_of r c) → FirstAt samples width height row column r c
   unfolding first_beating
   first_says r c e =
       let b = found-beaten samples width height row column r c e in
       go _ _ (rw b at e) (first-is-there b)
     where
-      go : (a b : ℕ) → At a b ≡ At r c → FirstAt samples width height row column a b → FirstAt samples width height row column r c
+      go : (a b : ℕ) → Some (place_of a b) ≡ Some (place_of r c) → FirstAt samples width height row column a b → FirstAt samples width height row column r c
       go a b e f =
-          let p : a ≡ r = cc in
-          let q : b ≡ c = cc in
+          let d : place_of a b ≡ place_of r c = cc in
+          let p : a ≡ r = ap (λ (x : Place). x.row) d in
+          let q : b ≡ c = ap (λ (x : Place). x.column) d in
           rw (← p, ← q) f
 
-  pub says_first : (r c : ℕ) → FirstAt samples width height row column r c → first_beating samples width height row column ≡ At r c
+  pub says_first : (r c : ℕ) → FirstAt samples width height row column r c → first_beating samples width height row column ≡ Some (place_of r c)
   says_first r c f =
       let i = f.near_by in
       first-there samples width height row column r c i.in_row i.in-column (omega arith) (omega arith) (omega arith) (omega arith)

@@ -1,14 +1,10 @@
 -- What `beaten` says: some pixel of the frame, at most 3 rows and columns away, is earlier and at least as large, or is larger; and if none
 -- is, the pixel is not beaten. Assumes nothing.
-use Rattle.std.specs.Prelude.{Bool, ◌&&◌, ◌≡◌, ◌⊎◌, List, ℕ, zero, suc, ◌+◌, ◌-◌, ◌≤◌, ◌<◌, min, ltb, leb, eqb}
-use Rattle.std.proofs.Math.Bool.{true, false, cond}
-use Rattle.std.proofs.Math.Path.{refl}
-use Rattle.std.proofs.Math.Logic.{inl, inr, ⊎_elim}
-use Rattle.std.proofs.Common.{ap, not-suc-le-zero, arith}
-use borrow.Author.Tests.{leb-true, le-leb, ltb-true, ltb-false, lt-ltb, le-ltb, eqb-true, eqb-false}
-use Rattle.lists.specs.Contradiction.{contradiction}
+use Rattle.std.specs.Prelude.{◌&&◌, ◌≡◌, List, ℕ, ◌<◌}
+use Rattle.std.proofs.Math.Bool.{true}
+use Rattle.std.proofs.Common.{arith}
 use Rattle.lists.specs.TestsLaws.{both_true}
-use Rattle.frame_window.specs.Window.{some_below, at, near, earlier, beats, hits, row_hits, beaten}
+use Rattle.frame_window.specs.Window.{near, beats, hits, row_hits, beaten}
 use Rattle.frame_window.specs.Laws.{some-found, near_le, by-pixel, InWindow, Wins, beats-says, says-beats, BeatenBy}
 
 module _ (samples : List ℕ) (width height row column : ℕ) where

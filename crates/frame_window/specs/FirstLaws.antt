@@ -1,24 +1,22 @@
 -- What `first_beating` names: the first pixel in row order of the window, cut to the frame, that beats another; and nothing exactly where the
 -- pixel is not beaten. Assumes nothing.
-use Rattle.std.specs.Prelude.{Bool, ◌≡◌, List, ℕ, ◌+◌, ◌-◌, ◌≤◌, ◌<◌, min}
+use Rattle.std.specs.Prelude.{Bool, ◌≡◌, List, ℕ, ◌+◌, ◌-◌, ◌≤◌, ◌<◌, min, Option, Some, None}
 use Rattle.std.proofs.Math.Bool.{true, false, cond}
 use Rattle.std.proofs.Math.Path.{refl}
-use Rattle.std.proofs.Common.{ap, ◌∙◌, inl, inr, ⊎_elim, arith}
-use Rattle.std.proofs.Math.Decide.{dec_lt}
+use Rattle.std.proofs.Common.{arith}
 use Rattle.lists.specs.Contradiction.{contradiction}
-use Rattle.lists.specs.First.{First, first}
-use Rattle.lists.proofs.First.{first-is, first_of}
-use Rattle.frame_window.specs.declared.Beating.{Beating}
-use Rattle.frame_window.specs.declared.Beating.TheVariants.{At, Nothing}
-use Rattle.frame_window.specs.Window.{beats, hits, row_hits, beaten, beating_row, beating_column, first_beating}
-use Rattle.frame_window.specs.Laws.{some-here, some-not, some-found, hit, miss, row-misses, by-pixel, by-none, beats-says, says-beats, Earlier, InWindow, Wins}
+use Rattle.lists.specs.First.{First}
+use Rattle.lists.proofs.First.{first_of}
+use Rattle.frame_window.specs.declared.Place.{Place}
+use Rattle.frame_window.specs.Window.{beats, hits, row_hits, beaten, place_of, first_beating}
+use Rattle.frame_window.specs.Laws.{some-here, hit, miss, row-misses, by-pixel, by-none, Earlier, InWindow, Wins}
 
 -- ---- as a look in row order meets it
 
 module _ (samples : List ℕ) (width height row column : ℕ) where
   pub none_first : ((r : ℕ) → r < min (row + 4) height → row - 3 ≤ r → (c : ℕ) → c < min (column + 4) width → column - 3 ≤ c
       → beats samples width row column r c ≡ false)
-      → first_beating samples width height row column ≡ Nothing
+      → first_beating samples width height row column ≡ None
   unfolding first_beating
   none_first g = rw (by-none samples width height row column g)
 
@@ -27,7 +25,7 @@ module _ (samples : List ℕ) (width height row column : ℕ) where
       → beats samples width row column r c ≡ true
       → ((j : ℕ) → j < r → row - 3 ≤ j → (k : ℕ) → k < min (column + 4) width → column - 3 ≤ k → beats samples width row column j k ≡ false)
       → ((k : ℕ) → k < c → column - 3 ≤ k → beats samples width row column r k ≡ false)
-      → first_beating samples width height row column ≡ At r c
+      → first_beating samples width height row column ≡ Some (place_of r c)
   unfolding first_beating
   first-there r c p q s t u v e above left =
       let y = hit samples width row column r c s t u v e in
@@ -48,19 +46,19 @@ module _ (samples : List ℕ) (width height row column : ℕ) where
 -- ---- beaten, or not
 
 module _ (samples : List ℕ) (width height row column : ℕ) where
-  pub found-beaten : (r c : ℕ) → first_beating samples width height row column ≡ At r c → beaten samples width height row column ≡ true
+  pub found-beaten : (r c : ℕ) → first_beating samples width height row column ≡ Some (place_of r c) → beaten samples width height row column ≡ true
   unfolding first_beating
   found-beaten r c = go _ (beaten samples width height row column)
     where
-      go : (x : Beating) (b : Bool) → cond b x Nothing ≡ At r c → b ≡ true
+      go : (x : Option Place) (b : Bool) → cond b x None ≡ Some (place_of r c) → b ≡ true
       go x true e = refl
       go x false e = contradiction (cc)
 
-  pub nothing-unbeaten : first_beating samples width height row column ≡ Nothing → beaten samples width height row column ≡ false
+  pub nothing-unbeaten : first_beating samples width height row column ≡ None → beaten samples width height row column ≡ false
   unfolding first_beating
   nothing-unbeaten = go _ _ (beaten samples width height row column)
     where
-      go : (r c : ℕ) (b : Bool) → cond b (At r c) Nothing ≡ Nothing → b ≡ false
+      go : (r c : ℕ) (b : Bool) → cond b (Some (place_of r c)) None ≡ None → b ≡ false
       go r c true e = contradiction (cc)
       go r c false e = refl
 

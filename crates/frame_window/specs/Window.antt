@@ -1,8 +1,7 @@
 -- Document 01, "Frame and pixel verdicts": a frame's samples, a pixel's window, and which pixel beats which. Assumes nothing.
-use Rattle.std.specs.Prelude.{Bool, true, false, cond, ◌&&◌, List, ℕ, zero, suc, ◌+◌, ◌*◌, get_or, ltb, leb}
+use Rattle.std.specs.Prelude.{Bool, true, false, cond, ◌&&◌, List, ℕ, zero, suc, ◌+◌, ◌*◌, get_or, ltb, leb, Option, Some, None}
 use Rattle.lists.specs.First.{first}
-use Rattle.frame_window.specs.declared.Beating.{Beating}
-use Rattle.frame_window.specs.declared.Beating.TheVariants.{At, Nothing}
+use Rattle.frame_window.specs.declared.Place.{Place}
 
 -- whether p holds of some number below n
 unfoldable pub some_below : ℕ → (ℕ → Bool) → Bool
@@ -45,9 +44,12 @@ beating_row samples width height row column = first (λ r. row_hits samples widt
 abbrev pub beating_column : List ℕ → ℕ → ℕ → ℕ → ℕ → ℕ
 beating_column samples width row column r = first (λ c. hits samples width row column r c) width
 
+abbrev pub place_of : ℕ → ℕ → Place
+place_of row column = record { row = row; column = column }
+
 -- the first in row order of the pixels that beat it, where it is beaten
-unfoldable pub first_beating : List ℕ → ℕ → ℕ → ℕ → ℕ → Beating
+unfoldable pub first_beating : List ℕ → ℕ → ℕ → ℕ → ℕ → Option Place
 first_beating samples width height row column =
     cond (beaten samples width height row column)
-    (At (beating_row samples width height row column) (beating_column samples width row column (beating_row samples width height row column)))
-    Nothing
+    (Some (place_of (beating_row samples width height row column) (beating_column samples width row column (beating_row samples width height row column))))
+    None

@@ -6,27 +6,44 @@ pub mod neighbours;
 ghost use Rattle.std.specs.Prelude.{◌≡◌, ◌+◌, ◌-◌, ◌*◌, ◌<◌, ◌≤◌, min, length};
 ghost use Rattle.frame_window.specs.Window.{at, earlier, beats, beaten, first_beating};
 
-// The row and the column of the first pixel that beats another, if one does.
+// A frame: its samples row by row, as many as its sides ask for, and the threshold that a star's sample reaches.
 #[derive(Clone, Copy)]
-pub enum Beating {
-    At(usize, usize),
-    Nothing,
+pub struct Frame<'a> {
+    pub samples: &'a [u16],
+    pub width: usize,
+    pub height: usize,
+    pub threshold: usize,
+    ghost whole: { length samples.now ≡ height * width },
 }
 
-// The sample of a pixel.
-pub fn sample(samples: &[u16], width: usize, height: usize, row: usize, column: usize) -> u16
-    requires { (length samples.now ≡ height * width) × (row < height) × (column < width) }
-    ensures { result ≡ at samples.now width row column }
+// A place in a frame.
+#[derive(Clone, Copy)]
+pub struct Place {
+    pub row: usize,
+    pub column: usize,
+}
+
+// A pixel of a frame.
+#[derive(Clone, Copy)]
+pub struct Pixel<'a> {
+    pub frame: Frame<'a>,
+    pub place: Place,
+    ghost inside: { (place.row < frame.height) × (place.column < frame.width) },
+}
+
+// The sample in that row and column of a frame.
+pub fn sample(frame: Frame, row: usize, column: usize) -> u16
+    requires { (row < frame.height) × (column < frame.width) }
+    ensures { let f = frame.entry in result ≡ at f.samples.now f.width row column }
 {
-    let place = row * width + column;
-    samples[place]
+    frame.samples[row * frame.width + column]
 }
 
-// Where a window starts along one side. The comparison comes first: there is nothing left of place 0.
+// Where a window starts along one side: there is nothing left of place 0.
 fn low(place: usize) -> usize
     ensures { result ≡ place - 3 }
 {
-    if place < 3 { 0 } else { place - 3 }
+    place.saturating_sub(3)
 }
 
 // Where it ends, along a side of that length.
@@ -34,82 +51,65 @@ fn high(place: usize, side: usize) -> usize
     requires { place < side }
     ensures { result ≡ min (place + 4) side }
 {
-    if side - place < 4 { side } else { place + 4 }
+    place.saturating_add(4).min(side)
 }
 
-// Whether the pixel at r, c comes before the one at row, column in row order.
-fn is_earlier(row: usize, column: usize, r: usize, c: usize) -> bool
-    ensures { result ≡ earlier row column r c }
+// Whether the other place comes before this one in row order.
+// Stays: the order that `Place` derives is slower, tried and measured: the rows' test then stays in the look's inner loop.
+#[tactic(auto, unfolding(crate::specs::Window::earlier))]
+fn is_earlier(place: Place, other: Place) -> bool
+    ensures { result ≡ earlier place.row place.column other.row other.column }
 {
-    if r < row {
+    if other.row < place.row {
         return true;
     }
-    if row < r {
+    if place.row < other.row {
         return false;
     }
-    c < column
+    other.column < place.column
 }
 
-// Whether the pixel at r, c beats the one at row, column.
-fn beats_it(
-    samples: &[u16],
-    width: usize,
-    height: usize,
-    row: usize,
-    column: usize,
-    r: usize,
-    c: usize,
-) -> bool
-    requires { (length samples.now ≡ height * width) × (row < height) × (column < width) × (r < height) × (c < width) }
-    ensures { result ≡ beats samples.now width row column r c }
+// Whether the pixel at the other place beats this one.
+#[tactic(auto, unfolding(crate::specs::Window::beats))]
+fn beats_it(pixel: Pixel, other: Place) -> bool
+    requires { (other.row < pixel.frame.height) × (other.column < pixel.frame.width) }
+    ensures { let p = pixel.entry in result ≡ beats p.frame.samples.now p.frame.width p.place.row p.place.column other.row other.column }
 {
-    let mine = sample(samples, width, height, row, column);
-    let other = sample(samples, width, height, r, c);
-    if is_earlier(row, column, r, c) {
-        mine <= other
+    let Pixel { frame, place, .. } = pixel;
+    let mine = sample(frame, place.row, place.column);
+    let theirs = sample(frame, other.row, other.column);
+    if is_earlier(place, other) {
+        mine <= theirs
     } else {
-        mine < other
+        mine < theirs
     }
 }
 
-// The first pixel in row order that beats the one at row, column, of those in its window. The look stops there.
-pub fn first_beating(
-    samples: &[u16],
-    width: usize,
-    height: usize,
-    row: usize,
-    column: usize,
-) -> Beating
-    requires { (length samples.now ≡ height * width) × (row < height) × (column < width) }
-    ensures { result ≡ first_beating samples.now width height row column }
+// The first pixel in row order that beats this one, of those in its window. The look stops there.
+pub fn first_beating(pixel: Pixel) -> Option<Place>
+    ensures { let p = pixel.entry in result ≡ first_beating p.frame.samples.now p.frame.width p.frame.height p.place.row p.place.column }
 {
-    let bottom = high(row, height);
-    let left = low(column);
-    let right = high(column, width);
-    let mut found = Beating::Nothing;
-    let mut r = low(row);
-    'look: while r < bottom {
-        let mut c = left;
-        while c < right {
-            if beats_it(samples, width, height, row, column, r, c) {
-                found = Beating::At(r, c);
+    let Pixel { frame, place, .. } = pixel;
+    let bottom = high(place.row, frame.height);
+    let left = low(place.column);
+    let right = high(place.column, frame.width);
+    let mut found = None;
+    'look: for row in low(place.row)..bottom {
+        for column in left..right {
+            let other = Place { row, column };
+            if beats_it(pixel, other) {
+                found = Some(other);
                 break 'look;
             }
-            c += 1;
         }
-        r += 1;
     }
     found
 }
 
-// Whether a pixel of its window beats the pixel at row, column.
-pub fn is_beaten(samples: &[u16], width: usize, height: usize, row: usize, column: usize) -> bool
-    requires { (length samples.now ≡ height * width) × (row < height) × (column < width) }
-    ensures { result ≡ beaten samples.now width height row column }
+// Whether a pixel of its window beats the pixel.
+#[tactic(auto, unfolding(crate::specs::Window::first_beating))]
+pub fn is_beaten(pixel: Pixel) -> bool
+    ensures { let p = pixel.entry in result ≡ beaten p.frame.samples.now p.frame.width p.frame.height p.place.row p.place.column }
 {
-    let beating = first_beating(samples, width, height, row, column);
-    match beating {
-        Beating::At(_, _) => true,
-        Beating::Nothing => false,
-    }
+    first_beating(pixel).is_some()
 }

@@ -1,11 +1,11 @@
 -- The identities of a guider's guides as a list of their own, and its test. Assumes nothing.
-use Rattle.std.specs.Prelude.{Bool, not, ◌&&◌, List, ◌≡◌, ℕ, ◌≤◌, ◌<◌, eqb, leb, get_or}
+use Rattle.std.specs.Prelude.{Bool, not, ◌&&◌, List, ◌≡◌, ℕ, ◌<◌, eqb, leb, get_or}
 use Rattle.std.proofs.Common.{arith}
 use Rattle.lists.specs.Tests.{all}
 use Rattle.lists.specs.TestsLaws.{all_same}
 use Rattle.guider_rule.specs.declared.Guider.{Guider}
 use Rattle.guider_rule.specs.Guider.{guide_at, dropped}
-use Rattle.guider_rule.specs.Rule.{on_frame, new_identity, guide_ok}
+use Rattle.guider_rule.specs.Rule.{on_frame, guide_ok}
 
 -- no identity before identity i is the same
 abbrev pub new_among : List ℕ → ℕ → Bool

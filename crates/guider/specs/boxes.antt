@@ -1,2 +1,2 @@
--- What one look at the list tells of a guide's box.
-pub mod Sight
+-- The single star in a guide's box.
+pub mod Single

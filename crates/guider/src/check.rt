@@ -1,10 +1,12 @@
 // The rule of a guider, whether it was just made or is handed in, and of a frame's list.
 ghost use Rattle.std.specs.Prelude.{◌≡◌, ◌&&◌, ℕ, ◌<◌, leb, length, get_or};
+ghost use Rattle.std.specs.List.{list_all};
 ghost use Rattle.guider_rule.specs.Guider.{no_guide, dropped};
 ghost use Rattle.guider_rule.specs.Rule.{on_frame, guider_ok, list_ok};
 ghost use Rattle.guider.specs.Identities.{new_among};
 
 use crate::boxes::DROPPED;
+use frame_centroid::Centroid;
 use frame_list::Report;
 use guider_rule::{Guide, Guider};
 
@@ -16,26 +18,13 @@ const FARTHEST: u64 = 261888;
 fn on_frame(x: u64, y: u64) -> bool
     ensures { result ≡ on_frame x y }
 {
-    if FARTHEST < x {
-        return false;
-    }
-    y <= FARTHEST
+    x <= FARTHEST && y <= FARTHEST
 }
 
-// The guides' identities, apart: they are lent as they stand, where an array of guides would be copied each time.
 fn identities_of(guides: [Guide; 4]) -> [u32; 4]
     ensures { (i : ℕ) → i < 4 → get_or result i 0 ≡ (get_or guides i no_guide).identity }
 {
-    let first = guides[0];
-    let second = guides[1];
-    let third = guides[2];
-    let fourth = guides[3];
-    [
-        first.identity,
-        second.identity,
-        third.identity,
-        fourth.identity,
-    ]
+    guides.map(|guide| guide.identity)
 }
 
 // Whether no identity before identity i is the same. A dropped guide keeps its identity.
@@ -43,68 +32,44 @@ fn is_new(identities: &[u32], i: usize) -> bool
     requires { i < length identities.now }
     ensures { result ≡ new_among identities.now i }
 {
-    let identity = identities[i];
-    let mut j: usize = 0;
-    while j < i {
-        if identities[j] == identity {
-            return false;
-        }
-        j += 1;
-    }
-    true
+    !identities[..i].contains(&identities[i])
 }
 
 fn guide_ok(guide: Guide, identities: &[u32], i: usize) -> bool
     requires { i < length identities.now }
     ensures { result ≡ (on_frame guide.x guide.y && (leb guide.misses dropped && new_among identities.now i)) }
 {
-    if !on_frame(guide.x, guide.y) {
-        return false;
-    }
-    if DROPPED < guide.misses {
-        return false;
-    }
-    is_new(identities, i)
+    on_frame(guide.x, guide.y) && guide.misses <= DROPPED && is_new(identities, i)
 }
 
 pub(crate) fn guider_ok(guider: Guider) -> bool
     ensures { result ≡ guider_ok guider }
 {
-    if WIDEST < guider.half {
+    if guider.half > WIDEST || guider.count > 4 {
         return false;
     }
-    let is_crowded = 4 < guider.count;
-    if is_crowded {
-        return false;
-    }
-    let guides = guider.guides;
-    let identities = identities_of(guides);
-    let mut i: usize = 0;
-    while i < guider.count {
-        let guide = guides[i];
-        if !guide_ok(guide, &identities, i) {
+    let identities = identities_of(guider.guides);
+    for i in 0..guider.count {
+        if !guide_ok(guider.guides[i], &identities, i) {
             return false;
         }
-        i += 1;
     }
     true
+}
+
+// Whether each of these stars lies on the frame.
+fn all_on_frame(stars: &[Centroid]) -> bool
+    ensures { result ≡ list_all (λ star. on_frame star.x star.y) stars.now }
+{
+    stars.iter().all(|star| on_frame(star.x, star.y))
 }
 
 pub(crate) fn list_ok(report: Report) -> bool
     ensures { result ≡ list_ok report }
 {
-    let is_crowded = 8 < report.count;
-    if is_crowded {
+    let is_long = report.count > 8;
+    if is_long {
         return false;
     }
-    let stars = report.stars;
-    let mut k: usize = 0;
-    while k < report.count {
-        let star = stars[k];
-        if !on_frame(star.x, star.y) {
-            return false;
-        }
-        k += 1;
-    }
-    true
+    all_on_frame(&report.stars[..report.count])
 }

@@ -4,6 +4,7 @@ ghost use Rattle.guider_rule.specs.Calls.{nobody as nobody_of, fresh_of, fresh_g
 
 use guider_rule::{Guide, Guider, Sighting};
 
+// Stays: a function and no `From`, which would not say that nothing is missed yet, and would have to stand with the types, in a crate without code.
 fn guide_of(star: Sighting) -> Guide
     ensures { result ≡ fresh_guide star }
 {
@@ -34,13 +35,9 @@ pub(crate) fn nobody() -> Guider
 pub(crate) fn guider_of(half: u64, stars: [Sighting; 4], count: usize) -> Guider
     ensures { result ≡ fresh_of half stars count }
 {
-    let first = guide_of(stars[0]);
-    let second = guide_of(stars[1]);
-    let third = guide_of(stars[2]);
-    let fourth = guide_of(stars[3]);
     Guider {
         half,
         count,
-        guides: [first, second, third, fourth],
+        guides: stars.map(guide_of),
     }
 }

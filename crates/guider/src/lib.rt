@@ -9,7 +9,6 @@ ghost use Rattle.guider_rule.specs.Calls.{nobody, refused_with, started_of, foll
 
 use frame_list::{Listing, Report};
 use guider_rule::{Guided, Guider, Sighting};
-use refusal::Outcome;
 
 mod check; // check.rt: the rule of a guider and of a list
 mod fresh; // fresh.rt: a guider that has missed nothing
@@ -33,6 +32,8 @@ pub fn unmade() -> Guided
 }
 
 // A guider for the first count of these stars.
+// Stays: an array with its count beside it. C may lend the numbers of more than four stars, and the rule refuses that count, which no array of four has.
+#[tactic(auto, unfolding(guider_rule::specs::Calls::started_of))]
 pub fn start(half: u64, stars: [Sighting; 4], count: usize) -> Guided
     ensures value { result ≡ started_of half stars count }
     ensures result_value { guided_answer result ≡ start_answer half stars count }
@@ -42,7 +43,7 @@ pub fn start(half: u64, stars: [Sighting; 4], count: usize) -> Guided
         return unmade();
     }
     Guided {
-        outcome: Outcome::Accepted,
+        outcome: Ok(()),
         guider,
     }
 }
@@ -56,12 +57,13 @@ fn followed(guider: Guider, report: Report) -> Guided
         return refused(guider);
     }
     Guided {
-        outcome: Outcome::Accepted,
+        outcome: Ok(()),
         guider: boxes::after(guider, report),
     }
 }
 
 // The guider after a frame. Where the call is refused it stays as it was, and a refused frame counts as no frame.
+#[tactic(auto, unfolding(guider_rule::specs::Calls::guided_of))]
 pub fn frame(guider: Guider, listing: Listing) -> Guided
     ensures value { result ≡ guided_of guider listing }
     ensures result_value { guided_answer result ≡ frame_answer guider listing }
@@ -71,10 +73,10 @@ pub fn frame(guider: Guider, listing: Listing) -> Guided
     }
     let seen = listing.outcome;
     match seen {
-        Outcome::Refused(_) => Guided {
-            outcome: Outcome::Accepted,
+        Err(_) => Guided {
+            outcome: Ok(()),
             guider,
         },
-        Outcome::Accepted => followed(guider, listing.report),
+        Ok(()) => followed(guider, listing.report),
     }
 }

@@ -9,8 +9,6 @@ use Rattle.std.proofs.Math.ListN.{get_or, length-set}
 use Rattle.std.proofs.Math.Seq.{get_or-set_other}
 use Rattle.lists.specs.Contradiction.{contradiction}
 use Rattle.lists.specs.TestsLaws.{and_right}
-use Rattle.refusal.specs.declared.Outcome.{Outcome}
-use Rattle.refusal.specs.declared.Outcome.TheVariants.{Accepted, Refused}
 use Rattle.refusal.specs.declared.Refusal.{Refusal}
 use Rattle.refusal.specs.Table.{refusal_of}
 use Rattle.frame_list.specs.declared.Report.{Report}
@@ -24,6 +22,7 @@ use Rattle.guider_rule.proofs.RuleLaws.{guider-keeps, guider-ok, list-keeps}
 use Rattle.guider_rule.specs.Calls.{accepted, refused_with, seen_by, guided_of}
 use Rattle.guider_rule.proofs.FollowLaws.{follower, misser, stayer, fates}
 use Rattle.guider_rule.specs.AfterLaws.{Whole, is_accepted, counts}
+use Rattle.std.specs.Prelude.{Result, Ok, Err}
 
 module _ (g : Guider) (r : Report) where
   length-after : (n : ℕ) → length (guides_after g r n) ≡ length g.guides
@@ -89,38 +88,38 @@ module _ (g : Guider) (r : Report) where
 
 module _ (g : Guider) (l : Listing) where
   -- refusal 22 exactly where the guider breaks its rule, or where the frame is accepted and its list breaks the rule
-  pub refused-where : (guided_of g l).outcome ≡ cond (guider_ok g && (not (is_accepted l.outcome) || list_ok l.report)) Accepted (refusal_of 22 0)
+  pub refused-where : (guided_of g l).outcome ≡ cond (guider_ok g && (not (is_accepted l.outcome) || list_ok l.report)) (Ok tt) (refusal_of 22 0)
   unfolding guided_of
   refused-where = by (guider_ok g) refl l.outcome refl (list_ok l.report) refl
     where
-      by : (t : Bool) → guider_ok g ≡ t → (o : Outcome) → l.outcome ≡ o → (u : Bool) → list_ok l.report ≡ u
+      by : (t : Bool) → guider_ok g ≡ t → (o : Result Unit Refusal) → l.outcome ≡ o → (u : Bool) → list_ok l.report ≡ u
           → (cond (guider_ok g) (seen_by g l.report l.outcome) (refused_with g)).outcome
-          ≡ cond (guider_ok g && (not (is_accepted l.outcome) || list_ok l.report)) Accepted (refusal_of 22 0)
+          ≡ cond (guider_ok g && (not (is_accepted l.outcome) || list_ok l.report)) (Ok tt) (refusal_of 22 0)
       by false e o f u q = rw e
-      by true e (Refused x) f u q = rw (e, f)
-      by true e Accepted f true q = rw (e, f, q)
-      by true e Accepted f false q = rw (e, f, q)
+      by true e (Err x) f u q = rw (e, f)
+      by true e (Ok _) f true q = rw (e, f, q)
+      by true e (Ok _) f false q = rw (e, f, q)
 
   -- a frame that counts is followed
   pub counted : guider_ok g ≡ true → counts l ≡ true → (guided_of g l).guider ≡ guider_after g l.report
   unfolding guided_of counts
   counted e c = by l.outcome refl c
     where
-      by : (o : Outcome) → l.outcome ≡ o → is_accepted o && list_ok l.report ≡ true
+      by : (o : Result Unit Refusal) → l.outcome ≡ o → is_accepted o && list_ok l.report ≡ true
           → (cond (guider_ok g) (seen_by g l.report l.outcome) (refused_with g)).guider ≡ guider_after g l.report
-      by Accepted f t = rw (e, f, t)
-      by (Refused x) f t = contradiction t
+      by (Ok _) f t = rw (e, f, t)
+      by (Err x) f t = contradiction t
 
   -- every other frame leaves the guider as it is: a refused one, and one whose list breaks the rule
   pub uncounted : counts l ≡ false → (guided_of g l).guider ≡ g
   unfolding guided_of counts
   uncounted c = by (guider_ok g) refl l.outcome refl c
     where
-      by : (t : Bool) → guider_ok g ≡ t → (o : Outcome) → l.outcome ≡ o → is_accepted o && list_ok l.report ≡ false
+      by : (t : Bool) → guider_ok g ≡ t → (o : Result Unit Refusal) → l.outcome ≡ o → is_accepted o && list_ok l.report ≡ false
           → (cond (guider_ok g) (seen_by g l.report l.outcome) (refused_with g)).guider ≡ g
       by false e o f t = rw e
-      by true e (Refused x) f t = rw (e, f)
-      by true e Accepted f t = rw (e, f, t)
+      by true e (Err x) f t = rw (e, f)
+      by true e (Ok _) f t = rw (e, f, t)
 
   -- and so does a call that is handed a guider that breaks its rule
   pub unruly : guider_ok g ≡ false → (guided_of g l).guider ≡ g
@@ -128,7 +127,7 @@ module _ (g : Guider) (l : Listing) where
   unruly e = rw e
 
   -- a frame that is refused counts as none, whatever stands in its list
-  pub refused-frame : (x : Refusal) → l.outcome ≡ Refused x → (guided_of g l).guider ≡ g
+  pub refused-frame : (x : Refusal) → l.outcome ≡ Err x → (guided_of g l).guider ≡ g
   unfolding counts
   refused-frame x e = uncounted (rw e)
 

@@ -3,7 +3,6 @@ use Rattle.std.specs.Prelude.{Bool, List, ℕ, zero, suc, ◌≤◌, ◌<◌}
 use Rattle.std.proofs.Math.Bool.{true, false, cond}
 use Rattle.std.proofs.Math.Path.{◌≡◌, refl}
 use Rattle.std.proofs.Common.{sym, ap, ◌∙◌, arith}
-use Rattle.refusal.specs.declared.Outcome.TheVariants.{Accepted}
 use Rattle.guider_rule.specs.declared.Guide.{Guide}
 use Rattle.guider_rule.specs.declared.Sighting.{Sighting}
 use Rattle.guider_rule.specs.Guider.{guide_at}
@@ -13,6 +12,7 @@ use Rattle.guider_rule.proofs.RuleLaws.{guider-keeps, guider-ok}
 use Rattle.guider_rule.specs.Calls.{accepted, refused_with, nobody, sighting_at, fresh_guide, fresh_of, started_of}
 use Rattle.guider_rule.specs.AfterLaws.{Whole}
 use Rattle.guider_rule.specs.StartLaws.{Startable}
+use Rattle.std.specs.Prelude.{Ok}
 
 module _ (half : ℕ) (stars : List Sighting) (count : ℕ) where
   pub fresh-whole : Whole (fresh_of half stars count)
@@ -58,11 +58,11 @@ module _ (half : ℕ) (stars : List Sighting) (count : ℕ) where
   started s = rw (guider-ok _ (fresh-rule s))
 
   -- and only such a start is accepted
-  pub startable : (started_of half stars count).outcome ≡ Accepted → Startable half stars count
+  pub startable : (started_of half stars count).outcome ≡ Ok tt → Startable half stars count
   unfolding started_of
   startable e = by (guider_ok (fresh_of half stars count)) refl e
     where
-      by : (t : Bool) → guider_ok (fresh_of half stars count) ≡ t → (cond t (accepted (fresh_of half stars count)) (refused_with nobody)).outcome ≡ Accepted
+      by : (t : Bool) → guider_ok (fresh_of half stars count) ≡ t → (cond t (accepted (fresh_of half stars count)) (refused_with nobody)).outcome ≡ Ok tt
           → Startable half stars count
       by true q f = rule-fresh (guider-keeps (fresh_of half stars count) q)
       by false q f = let z : ◌≡◌ {A = ℕ} 0 1 = cc in absurd (omega arith)

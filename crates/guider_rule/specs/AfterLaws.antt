@@ -9,8 +9,6 @@ use Rattle.std.proofs.Math.ListN.{get_or, length-set}
 use Rattle.std.proofs.Math.Seq.{get_or-set_other}
 use Rattle.lists.specs.Contradiction.{contradiction}
 use Rattle.lists.specs.TestsLaws.{and_right}
-use Rattle.refusal.specs.declared.Outcome.{Outcome}
-use Rattle.refusal.specs.declared.Outcome.TheVariants.{Accepted, Refused}
 use Rattle.refusal.specs.declared.Refusal.{Refusal}
 use Rattle.refusal.specs.Table.{refusal_of}
 use Rattle.frame_list.specs.declared.Report.{Report}
@@ -21,6 +19,7 @@ use Rattle.guider_rule.specs.Guider.{no_guide, guide_at, guide_after, guides_aft
 use Rattle.guider_rule.specs.Rule.{guider_ok, list_ok}
 use Rattle.guider_rule.specs.RuleLaws.{OnFrame, GuiderRule, ListRule}
 use Rattle.guider_rule.specs.Calls.{accepted, refused_with, seen_by, guided_of}
+use Rattle.std.specs.Prelude.{Result, Ok, Err}
 
 -- an array of guides has four places
 abbrev pub Whole : Guider → Type 0
@@ -30,9 +29,9 @@ Whole g = length g.guides ≡ 4
 
 -- ---- a call
 
-abbrev pub is_accepted : Outcome → Bool
-is_accepted Accepted = true
-is_accepted (Refused _) = false
+abbrev pub is_accepted : Result Unit Refusal → Bool
+is_accepted (Ok _) = true
+is_accepted (Err _) = false
 
 -- a frame that counts: accepted, with a list that keeps the rule
 unfoldable pub counts : Listing → Bool

@@ -1,7 +1,5 @@
 -- Request T-14: what the guider's two calls give. Assumes nothing.
 use Rattle.std.specs.Prelude.{cond, List, [], ◌∷◌, ℕ, get_or, replicate}
-use Rattle.refusal.specs.declared.Outcome.{Outcome}
-use Rattle.refusal.specs.declared.Outcome.TheVariants.{Accepted, Refused}
 use Rattle.refusal.specs.Table.{refusal_of}
 use Rattle.refusal.specs.Numbers as refusals
 use Rattle.frame_list.specs.declared.Report.{Report}
@@ -12,13 +10,15 @@ use Rattle.guider_rule.specs.declared.Guider.{Guider}
 use Rattle.guider_rule.specs.declared.Guided.{Guided}
 use Rattle.guider_rule.specs.Guider.{no_guide, guider_after}
 use Rattle.guider_rule.specs.Rule.{guider_ok, list_ok}
+use Rattle.std.specs.Prelude.{Result, Ok, Err}
+use Rattle.refusal.specs.declared.Refusal.{Refusal}
 
 -- refusal 22, with the guider that is handed back
 abbrev pub refused_with : Guider → Guided
 refused_with g = record { outcome = refusal_of refusals.guider 0; guider = g }
 
 abbrev pub accepted : Guider → Guided
-accepted g = record { outcome = Accepted; guider = g }
+accepted g = record { outcome = Ok tt; guider = g }
 
 -- ---- start
 
@@ -54,9 +54,9 @@ abbrev pub followed_of : Guider → Report → Guided
 followed_of g r = cond (list_ok r) (accepted (guider_after g r)) (refused_with g)
 
 -- a refused frame counts as no frame
-abbrev pub seen_by : Guider → Report → Outcome → Guided
-seen_by g r (Refused _) = accepted g
-seen_by g r Accepted = followed_of g r
+abbrev pub seen_by : Guider → Report → Result Unit Refusal → Guided
+seen_by g r (Err _) = accepted g
+seen_by g r (Ok _) = followed_of g r
 
 unfoldable pub guided_of : Guider → Listing → Guided
 guided_of g l = cond (guider_ok g) (seen_by g l.report l.outcome) (refused_with g)

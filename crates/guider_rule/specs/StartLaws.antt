@@ -3,7 +3,6 @@ use Rattle.std.specs.Prelude.{Bool, List, ℕ, zero, suc, ◌≤◌, ◌<◌}
 use Rattle.std.proofs.Math.Bool.{true, false, cond}
 use Rattle.std.proofs.Math.Path.{◌≡◌, refl}
 use Rattle.std.proofs.Common.{sym, ap, ◌∙◌, arith}
-use Rattle.refusal.specs.declared.Outcome.TheVariants.{Accepted}
 use Rattle.guider_rule.specs.declared.Guide.{Guide}
 use Rattle.guider_rule.specs.declared.Sighting.{Sighting}
 use Rattle.guider_rule.specs.Guider.{guide_at}

@@ -1,7 +1,7 @@
 // What a guider is, the rule that it keeps, and where its guides are after a frame: structs and theory without code.
 #![tactic(auto)]
 
-use refusal::Outcome;
+use refusal::Refusal;
 
 // A star to follow: its identity, which is a number of a catalogue, and its position in 1/256 pixel.
 #[derive(Clone, Copy)]
@@ -21,6 +21,7 @@ pub struct Guide {
 }
 
 // Half the side of the boxes in 1/256 pixel, and the guides: the first count of them.
+// Stays: an array with its count beside it, since mnemathor_guider_frame keeps all four places in the 18 numbers of a lent room, and without a heap.
 #[derive(Clone, Copy)]
 pub struct Guider {
     pub half: u64,
@@ -28,9 +29,10 @@ pub struct Guider {
     pub guides: [Guide; 4],
 }
 
-// An array stands beside an enum and not in it.
+// What a call gives: its outcome, and the guider.
+// Stays: the guider beside the outcome and no Result of it. A refused frame hands it back as it was, as the clause `value` of guider::frame says.
 #[derive(Clone, Copy)]
 pub struct Guided {
-    pub outcome: Outcome,
+    pub outcome: Result<(), Refusal>,
     pub guider: Guider,
 }

@@ -10,14 +10,13 @@ use Rattle.catalogue.specs.Alike.{Alike, identity-same}
 use Rattle.chain.specs.declared.Settings.{Settings}
 use Rattle.chain.specs.Chain.{Call, call, listed}
 use Rattle.chain.specs.Alike.{our-search-same, chain_same}
-use Rattle.files.specs.declared.Reading.{Reading}
-use Rattle.files.specs.declared.Reading.TheVariants as reading
 use Rattle.files.specs.Settings.{reading_of}
 use Rattle.text.specs.Refused.{refusal_line}
 use Rattle.text.specs.Ascii.{ascii}
 use Rattle.text.specs.Decimal.{decimal}
 use Rattle.listing.specs.lines.Lines.{name_of, report_lines, matrix_lines}
 use Rattle.listing.specs.Listing.{nobody, early, accepted_text, refused_text, answer_text, samples_in, text_of, listing_text}
+use Rattle.std.specs.Prelude.{Result, Ok, Err}
 
 module _ {first second : List ℕ} (a : Alike first second) where
   -- the name of a star
@@ -53,6 +52,6 @@ module _ {first second : List ℕ} (a : Alike first second) where
   unfolding listing_text text_of
   listing-same settings frame = go (reading_of settings)
     where
-      go : (r : Reading) → text_of frame first r ≡ text_of frame second r
-      go (reading.Refused r) = refl
-      go (reading.Read s) = answer-same (samples_in frame s) s (replicate 4096 0)
+      go : (r : Result Settings Refusal) → text_of frame first r ≡ text_of frame second r
+      go (Err r) = refl
+      go (Ok s) = answer-same (samples_in frame s) s (replicate 4096 0)

@@ -1,19 +1,17 @@
 -- The whole listing of three files, accepted or refused. Assumes nothing.
 use Rattle.std.specs.Prelude.{Bool, true, cond, ◌≡◌, List, ◌++◌, ℕ, ltb, eqb, length, get_or, replicate}
 use Rattle.refusal.specs.declared.Refusal.{Refusal}
-use Rattle.refusal.specs.declared.Outcome.TheVariants as outcome
 use Rattle.refusal.specs.Numbers as number
 use Rattle.refusal.specs.Table.{answered}
 use Rattle.chain.specs.declared.Settings.{Settings}
 use Rattle.chain.specs.declared.Tracked.{Tracked}
 use Rattle.chain.specs.Chain.{Call, call, listed, our_identification, tracked_of, room_after}
-use Rattle.files.specs.declared.Reading.{Reading}
-use Rattle.files.specs.declared.Reading.TheVariants as reading
 use Rattle.files.specs.Settings.{reading_of}
 use Rattle.files.specs.Samples.{sample_count, samples_of}
 use Rattle.text.specs.Refused.{refusal_line}
 use Rattle.text.specs.Ascii.{ascii}
 use Rattle.listing.specs.lines.Lines.{name_of, report_lines, matrix_lines}
+use Rattle.std.specs.Prelude.{Result, Ok, Err}
 
 -- ---- the names of an assignment's stars, or "-" for every one where none are shown
 
@@ -55,9 +53,9 @@ chain_on samples catalogue s = call samples catalogue s (replicate 4096 0)
 abbrev pub samples_in : List ℕ → Settings → List ℕ
 samples_in frame s = samples_of frame (sample_count (length frame) s.width s.height)
 
-unfoldable pub text_of : List ℕ → List ℕ → Reading → List ℕ
-text_of frame catalogue (reading.Refused r) = refusal_line r
-text_of frame catalogue (reading.Read s) = answer_text (chain_on (samples_in frame s) catalogue s)
+unfoldable pub text_of : List ℕ → List ℕ → Result Settings Refusal → List ℕ
+text_of frame catalogue (Err r) = refusal_line r
+text_of frame catalogue (Ok s) = answer_text (chain_on (samples_in frame s) catalogue s)
 
 unfoldable pub listing_text : List ℕ → List ℕ → List ℕ → List ℕ
 listing_text settings frame catalogue = text_of frame catalogue (reading_of settings)
@@ -71,7 +69,7 @@ room_size = 2048
 -- ---- what the lines of a refusal are handed: the call's refusal, and the room that the chain left
 
 pub record Refuses (c : Call) (r : Refusal) (ranking : List ℕ) : Type 0 where
-  pub outcome : (tracked_of c).outcome ≡ outcome.Refused r
+  pub outcome : (tracked_of c).outcome ≡ Err r
   pub left : ranking ≡ room_after c
 
 -- the same at 14, with the number of listed stars

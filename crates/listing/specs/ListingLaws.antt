@@ -4,8 +4,6 @@ use Rattle.std.proofs.Math.Path.{refl, sym, ap}
 use Rattle.std.proofs.Common.{◌∙◌, subst}
 use mathlib.Core.List.{List}
 use Rattle.refusal.specs.declared.Refusal.{Refusal}
-use Rattle.refusal.specs.declared.Outcome.{Outcome}
-use Rattle.refusal.specs.declared.Outcome.TheVariants.{Accepted, Refused}
 use Rattle.refusal.specs.Numbers as number
 use Rattle.refusal.specs.Table.{first_applying, answered}
 use Rattle.catalogue.specs.Format.{records_in}
@@ -13,16 +11,17 @@ use Rattle.chain.specs.Chain.{Call, listed, refusals_of, refused_with, located_o
 use Rattle.chain.specs.ChainLaws.{words-most, room-front, room-long}
 use Rattle.chain.proofs.ReadyLaws.{refused-early, ready}
 use Rattle.listing.specs.Listing.{Refuses}
+use Rattle.std.specs.Prelude.{Result, Ok, Err}
 
 module _ (c : Call) (r : Refusal) (ranking : List ℕ) (h : Refuses c r ranking) (e : r.number ≡ number.close) where
-  admitted : first_applying (refusals_of c) ≡ Accepted
+  admitted : first_applying (refusals_of c) ≡ Ok tt
   unfolding tracked_of
   admitted = by (first_applying (refusals_of c)) refl
     where
-      by : (o : Outcome) → first_applying (refusals_of c) ≡ o → o ≡ Accepted
-      by Accepted k = refl
-      by (Refused q) k =
-          let a : Refused q ≡ Refused r = sym (ap (λ (o : Outcome). (answered refused_with (located_of (listed c).report c.catalogue c.settings) o).outcome)
+      by : (o : Result Unit Refusal) → first_applying (refusals_of c) ≡ o → o ≡ Ok tt
+      by (Ok _) k = refl
+      by (Err q) k =
+          let a : Err q ≡ Err r = sym (ap (λ (o : Result Unit Refusal). (answered refused_with (located_of (listed c).report c.catalogue c.settings) o).outcome)
           k) ∙ h.outcome in
           let n : q.number ≡ r.number = cc in
           absurd ((refused-early c q k).no-14 (n ∙ e))
@@ -32,7 +31,7 @@ module _ (c : Call) (r : Refusal) (ranking : List ℕ) (h : Refuses c r ranking)
 
   ranked : ranking ≡ ranked_room (listed c).report c.catalogue c.settings c.room
   unfolding room_after
-  ranked = h.left ∙ ap (λ (o : Outcome). answered (λ q. c.room) (ranked_room (listed c).report c.catalogue c.settings c.room) o) admitted
+  ranked = h.left ∙ ap (λ (o : Result Unit Refusal). answered (λ q. c.room) (ranked_room (listed c).report c.catalogue c.settings c.room) o) admitted
 
   pub words-there : (listed c).report.count * records_in c.catalogue ≤ length ranking
   words-there = subst (λ (l : List ℕ). (listed c).report.count * records_in c.catalogue ≤ length l) (sym ranked) (room-long _ _ _ _ (ready c admitted))

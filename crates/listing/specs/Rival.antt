@@ -3,8 +3,6 @@ use Rattle.std.specs.Prelude.{true, cond, List, ℕ, min}
 use Rattle.refusal.specs.Table.{answered}
 use Rattle.frame_list.specs.declared.Report.{Report}
 use Rattle.chain.specs.Chain.{Call, listed}
-use Rattle.files.specs.declared.Reading.{Reading}
-use Rattle.files.specs.declared.Reading.TheVariants as reading
 use Rattle.files.specs.Settings.{reading_of}
 use Rattle.text.specs.Ascii.{ascii}
 use Rattle.text.specs.Refused.{refusal_line}
@@ -12,6 +10,9 @@ use Rattle.listing.specs.lines.Lines.{shown_in, star_lines}
 use Rattle.listing.specs.Listing.{chain_on, samples_in}
 use Rattle.search_rival.specs.declared.Contest.{Contest}
 use Rattle.chain.specs.rival.Chain.{contested_of}
+use Rattle.std.specs.Prelude.{Result, Ok, Err}
+use Rattle.refusal.specs.declared.Refusal.{Refusal}
+use Rattle.chain.specs.declared.Settings.{Settings}
 
 unfoldable pub contest_text : Report → List ℕ → Contest → List ℕ
 contest_text report catalogue c =
@@ -21,9 +22,9 @@ contest_text report catalogue c =
 unfoldable pub call_text : Call → List ℕ
 call_text c = contest_text (listed c).report c.catalogue (contested_of c)
 
-unfoldable pub text_of : List ℕ → List ℕ → Reading → List ℕ
-text_of frame catalogue (reading.Refused r) = refusal_line r
-text_of frame catalogue (reading.Read s) = call_text (chain_on (samples_in frame s) catalogue s)
+unfoldable pub text_of : List ℕ → List ℕ → Result Settings Refusal → List ℕ
+text_of frame catalogue (Err r) = refusal_line r
+text_of frame catalogue (Ok s) = call_text (chain_on (samples_in frame s) catalogue s)
 
 -- the lines for settings.bin, frame.bin and catalogue.bin
 unfoldable pub rival_text : List ℕ → List ℕ → List ℕ → List ℕ

@@ -5,6 +5,7 @@ pub mod lines;
 pub mod rival;
 
 ghost use Rattle.std.specs.Prelude.{◌≡◌, ◌≤◌};
+ghost use Rattle.chain.specs.Chain.{listed};
 ghost use Rattle.text.specs.Room.{room_with, length_in};
 ghost use Rattle.text.specs.Written.{Wrote};
 ghost use Rattle.listing.specs.Listing.{early, Refuses, Finds, chain_on, samples_in, refused_text, answer_text, listing_text, room_size};
@@ -12,33 +13,51 @@ ghost use Rattle.listing.specs.Asked.{most_of, lines_of, asked_text};
 ghost use Rattle.listing.specs.Listing.{found as words_found};
 
 use chain::Settings;
-use files::Reading;
-use refusal::{Outcome, Refusal};
+use frame_list::Report;
+use refusal::Refusal;
 
 // The bytes that a room for any answer has.
 pub const ROOM: usize = 2048;
 
 // What is asked: the listing, or the first rival of the names that it shows.
+// Stays: an enum and no closure: the definitions `lines_of`, `most_of` and `asked_text` and the edit listing_for_the_rival speak of it.
 #[derive(Clone, Copy)]
 pub enum Asked {
     Listing,
     Rival,
 }
 
+// What the chain is handed: a frame's samples, a catalogue, and the settings.
+#[derive(Clone, Copy)]
+pub(crate) struct Input<'a> {
+    pub samples: &'a [u16],
+    pub catalogue: &'a [u8],
+    pub settings: Settings,
+}
+
+impl Input<'_> {
+    // The frame's list.
+    pub(crate) fn report(self) -> Report
+        ensures { let i = self.entry in result ≡ (listed (chain_on i.samples.now i.catalogue.now i.settings)).report }
+    {
+        let s = self.settings;
+        let listing = frame_list::list(self.samples, s.width, s.height, s.threshold);
+        listing.report
+    }
+}
+
 // The words that the search had found when the attitude was refused.
-fn found(
-    refusal: Refusal,
-    samples: &[u16],
-    catalogue: &[u8],
-    settings: Settings,
-    ranking: &[u16],
-    count: usize,
-) -> [u16; 8]
-    requires { Finds (chain_on samples.now catalogue.now settings) refusal ranking.now count }
-    ensures { result ≡ words_found (chain_on samples.now catalogue.now settings) }
+fn found(input: Input, refusal: Refusal, ranking: &[u16], count: usize) -> [u16; 8]
+    requires { Finds (chain_on input.samples.now input.catalogue.now input.settings) refusal ranking.now count }
+    ensures { let i = input.entry in result ≡ words_found (chain_on i.samples.now i.catalogue.now i.settings) }
 {
-    let words = count * catalogue::records(catalogue);
-    let names = chain::names(samples, catalogue, settings, &ranking[..words]);
+    let words = count * catalogue::records(input.catalogue);
+    let names = chain::names(
+        input.samples,
+        input.catalogue,
+        input.settings,
+        &ranking[..words],
+    );
     names.stars
 }
 
@@ -53,66 +72,52 @@ fn is_early(number: u32) -> bool
 }
 
 // The lines of a refused call. With 12, 13 and 14 the frame's list was accepted and stands before the refusal; 14 has names.
-fn refused(
-    refusal: Refusal,
-    samples: &[u16],
-    catalogue: &[u8],
-    settings: Settings,
-    ranking: &[u16],
-    room: &mut [u8],
-) -> usize
-    requires { Refuses (chain_on samples.now catalogue.now settings) refusal ranking.now }
-    ensures wrote { Wrote room.old 0 (refused_text (chain_on samples.now catalogue.now settings) refusal) room.new result }
+fn refused(input: Input, refusal: Refusal, ranking: &[u16], room: &mut [u8]) -> usize
+    requires { Refuses (chain_on input.samples.now input.catalogue.now input.settings) refusal ranking.now }
+    ensures wrote { let i = input.entry in
+        Wrote room.old 0 (refused_text (chain_on i.samples.now i.catalogue.now i.settings) refusal) room.new result }
     ensures upper_bound { result ≤ 972 }
 {
     if is_early(refusal.number) {
         return text::refused(room, 0, refusal);
     }
-    let listing = frame_list::list(samples, settings.width, settings.height, settings.threshold);
-    let report = listing.report;
+    let report = input.report();
     if refusal.number == refusal::CLOSE {
-        let words = found(refusal, samples, catalogue, settings, ranking, report.count);
-        let next = lines::report(room, 0, report, words, true, catalogue);
+        let words = found(input, refusal, ranking, report.count);
+        let next = lines::report(room, 0, report, Some(words), input.catalogue);
         return text::refused(room, next, refusal);
     }
-    let next = lines::report(room, 0, report, [0u16; 8], false, catalogue);
+    let next = lines::report(room, 0, report, None, input.catalogue);
     text::refused(room, next, refusal)
 }
 
 // The lines of the chain's answer.
-fn answer(samples: &[u16], catalogue: &[u8], settings: Settings, room: &mut [u8]) -> usize
-    ensures wrote { Wrote room.old 0 (answer_text (chain_on samples.now catalogue.now settings)) room.new result }
+fn answer(input: Input, room: &mut [u8]) -> usize
+    ensures wrote { let i = input.entry in
+        Wrote room.old 0 (answer_text (chain_on i.samples.now i.catalogue.now i.settings)) room.new result }
     ensures upper_bound { result ≤ 1120 }
 {
     let mut ranking = [0u16; 4096];
-    let tracked = chain::track(samples, catalogue, settings, &mut ranking);
-    let outcome = tracked.outcome;
-    let report = tracked.report;
-    let words = tracked.stars;
-    let matrix = tracked.matrix;
-    match outcome {
-        Outcome::Refused(r) => refused(r, samples, catalogue, settings, &ranking, room),
-        Outcome::Accepted => {
-            let next = lines::report(room, 0, report, words, true, catalogue);
-            lines::matrix(room, next, matrix)
+    let tracked = chain::track(input.samples, input.catalogue, input.settings, &mut ranking);
+    match tracked.outcome {
+        Err(r) => refused(input, r, &ranking, room),
+        Ok(()) => {
+            let words = Some(tracked.stars);
+            let next = lines::report(room, 0, tracked.report, words, input.catalogue);
+            lines::matrix(room, next, tracked.matrix)
         }
     }
 }
 
 // The lines of what is asked about a frame.
-fn lines_of(
-    asked: Asked,
-    samples: &[u16],
-    catalogue: &[u8],
-    settings: Settings,
-    room: &mut [u8],
-) -> usize
-    ensures wrote { Wrote room.old 0 (lines_of asked (chain_on samples.now catalogue.now settings)) room.new result }
+fn lines_of(asked: Asked, input: Input, room: &mut [u8]) -> usize
+    ensures wrote { let i = input.entry in
+        Wrote room.old 0 (lines_of asked (chain_on i.samples.now i.catalogue.now i.settings)) room.new result }
     ensures upper_bound { result ≤ most_of asked }
 {
     match asked {
-        Asked::Listing => answer(samples, catalogue, settings, room),
-        Asked::Rival => rival::rivals(samples, catalogue, settings, room),
+        Asked::Listing => answer(input, room),
+        Asked::Rival => rival::rivals(input, room),
     }
 }
 
@@ -130,7 +135,12 @@ fn listed(
 {
     let mut samples = [0u16; 32000];
     let count = files::read_samples(frame, settings.width, settings.height, &mut samples);
-    lines_of(asked, &samples[..count], catalogue, settings, room)
+    let input = Input {
+        samples: &samples[..count],
+        catalogue,
+        settings,
+    };
+    lines_of(asked, input, room)
 }
 
 // Puts what is asked at the start of the room, leaves the rest as it is, and answers how many bytes it has. A room of fewer than 2,048 bytes gets none.
@@ -152,8 +162,8 @@ fn write_asked(
         return 0;
     }
     match files::read_settings(settings) {
-        Reading::Refused(r) => text::refused(room, 0, r),
-        Reading::Read(s) => listed(asked, s, frame, catalogue, room),
+        Err(r) => text::refused(room, 0, r),
+        Ok(s) => listed(asked, s, frame, catalogue, room),
     }
 }
 

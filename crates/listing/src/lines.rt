@@ -1,7 +1,8 @@
 // The lines of the listing, each put at a place of the room.
-ghost use Rattle.std.specs.Prelude.{◌≡◌, ◌+◌, ◌≤◌, min};
+ghost use Rattle.std.specs.Prelude.{◌≡◌, ◌+◌, ◌<◌, ◌≤◌, min, is_some};
 ghost use Rattle.text.specs.Written.{Wrote};
 ghost use Rattle.listing.specs.lines.Lines.{counts_line, shown, shown_in, star_place, star_line, star_lines, report_lines, row_line, matrix_lines};
+ghost use Rattle.listing.specs.lines.Given.{word_in, words_in, word_of};
 
 use attitude::Matrix;
 use frame_centroid::Centroid;
@@ -22,15 +23,15 @@ fn counts(room: &mut [u8], at: usize, report: Report) -> usize
     text::word(room, lone, b"\n")
 }
 
-// The identity of the star that a word names, where names are shown and it names one, else "-".
-fn name(room: &mut [u8], at: usize, word: u16, names: bool, catalogue: &[u8]) -> usize
-    ensures wrote { Wrote room.old at (shown names catalogue.now word) room.new result }
+// The identity of the star that a word names, or "-" where it names none or is not shown.
+fn name(room: &mut [u8], at: usize, word: Option<u16>, catalogue: &[u8]) -> usize
+    ensures wrote { Wrote room.old at (shown (is_some word) catalogue.now (word_in word)) room.new result }
     ensures upper_bound { result ≤ at + 20 }
 {
-    let i = word as usize;
-    if !names {
+    let Some(word) = word else {
         return text::word(room, at, b"-");
-    }
+    };
+    let i = word as usize;
     if catalogue::records(catalogue) <= i {
         return text::word(room, at, b"-");
     }
@@ -55,16 +56,24 @@ fn star(
     at: usize,
     k: usize,
     star: Centroid,
-    word: u16,
-    names: bool,
+    word: Option<u16>,
     catalogue: &[u8],
 ) -> usize
-    ensures wrote { Wrote room.old at (star_line k star (shown names catalogue.now word)) room.new result }
+    ensures wrote { Wrote room.old at (star_line k star (shown (is_some word) catalogue.now (word_in word))) room.new result }
     ensures upper_bound { result ≤ at + 105 }
 {
     let placed = place(room, at, k, star);
-    let named = name(room, placed, word, names, catalogue);
+    let named = name(room, placed, word, catalogue);
     text::word(room, named, b"\n")
+}
+
+// The word of a listed star, where names are shown.
+fn word_of(words: Option<[u16; 8]>, k: usize) -> Option<u16>
+    requires { k < 8 }
+    ensures { result ≡ word_of words k }
+{
+    let words = words?;
+    Some(words[k])
 }
 
 // The lines of the first `count` stars.
@@ -73,49 +82,35 @@ fn star_lines(
     at: usize,
     stars: [Centroid; 8],
     count: usize,
-    words: [u16; 8],
-    names: bool,
+    words: Option<[u16; 8]>,
     catalogue: &[u8],
 ) -> usize
     requires { count ≤ 8 }
-    ensures wrote { Wrote room.old at (star_lines stars (shown_in names catalogue.now words) count) room.new result }
+    ensures wrote { Wrote room.old at (star_lines stars (shown_in (is_some words) catalogue.now (words_in words)) count)
+        room.new result }
     ensures upper_bound { result ≤ at + 840 }
 {
     let mut next = at;
-    let mut k: usize = 0;
-    while k < count {
-        next = star(room, next, k, stars[k], words[k], names, catalogue);
-        k += 1;
+    for k in 0..count {
+        next = star(room, next, k, stars[k], word_of(words, k), catalogue);
     }
     next
 }
 
-fn at_most_eight(count: usize) -> usize
-    ensures { result ≡ min 8 count }
-{
-    if count < MOST_STARS {
-        count
-    } else {
-        MOST_STARS
-    }
-}
-
-// A line for each listed star.
+// A line for each listed star, with the names of an assignment's words or with none.
 pub fn stars(
     room: &mut [u8],
     at: usize,
     report: Report,
-    words: [u16; 8],
-    names: bool,
+    words: Option<[u16; 8]>,
     catalogue: &[u8],
 ) -> usize
-    ensures wrote { Wrote room.old at (star_lines report.stars (shown_in names catalogue.now words) (min 8 report.count))
-        room.new result }
+    ensures wrote { Wrote room.old at
+        (star_lines report.stars (shown_in (is_some words) catalogue.now (words_in words)) (min 8 report.count)) room.new result }
     ensures upper_bound { result ≤ at + 840 }
 {
-    let stars = report.stars;
-    let count = at_most_eight(report.count);
-    star_lines(room, at, stars, count, words, names, catalogue)
+    let count = report.count.min(MOST_STARS);
+    star_lines(room, at, report.stars, count, words, catalogue)
 }
 
 // The counts, and a line for each listed star.
@@ -123,15 +118,15 @@ pub fn report(
     room: &mut [u8],
     at: usize,
     report: Report,
-    words: [u16; 8],
-    names: bool,
+    words: Option<[u16; 8]>,
     catalogue: &[u8],
 ) -> usize
-    ensures wrote { Wrote room.old at (report_lines report (shown_in names catalogue.now words)) room.new result }
+    ensures wrote { Wrote room.old at (report_lines report (shown_in (is_some words) catalogue.now (words_in words)))
+        room.new result }
     ensures upper_bound { result ≤ at + 922 }
 {
     let first = counts(room, at, report);
-    stars(room, first, report, words, names, catalogue)
+    stars(room, first, report, words, catalogue)
 }
 
 // A row of the matrix.

@@ -5,10 +5,8 @@ ghost use Rattle.text.specs.Written.{Wrote};
 ghost use Rattle.listing.specs.Listing.{chain_on, room_size};
 ghost use Rattle.listing.specs.Rival.{contest_text, call_text, rival_text};
 
-use crate::Asked;
-use chain::Settings;
+use crate::{Asked, Input};
 use frame_list::Report;
-use refusal::Outcome;
 use search_rival::Contest;
 
 // The lines of an answer about the stars of a report.
@@ -16,13 +14,11 @@ fn contested(room: &mut [u8], report: Report, contest: Contest, catalogue: &[u8]
     ensures wrote { Wrote room.old 0 (contest_text report catalogue.now contest) room.new result }
     ensures upper_bound { result ≤ 840 }
 {
-    let outcome = contest.outcome;
-    let words = contest.stars;
-    match outcome {
-        Outcome::Refused(r) => text::refused(room, 0, r),
-        Outcome::Accepted => {
+    match contest.outcome {
+        Err(r) => text::refused(room, 0, r),
+        Ok(()) => {
             if contest.rival {
-                return crate::lines::stars(room, 0, report, words, true, catalogue);
+                return crate::lines::stars(room, 0, report, Some(contest.stars), catalogue);
             }
             text::word(room, 0, b"alone\n")
         }
@@ -30,19 +26,19 @@ fn contested(room: &mut [u8], report: Report, contest: Contest, catalogue: &[u8]
 }
 
 // The lines for the samples of a frame.
-pub(crate) fn rivals(
-    samples: &[u16],
-    catalogue: &[u8],
-    settings: Settings,
-    room: &mut [u8],
-) -> usize
-    ensures wrote { Wrote room.old 0 (call_text (chain_on samples.now catalogue.now settings)) room.new result }
+pub(crate) fn rivals(input: Input, room: &mut [u8]) -> usize
+    ensures wrote { let i = input.entry in
+        Wrote room.old 0 (call_text (chain_on i.samples.now i.catalogue.now i.settings)) room.new result }
     ensures upper_bound { result ≤ 840 }
 {
     let mut ranking = [0u16; 4096];
-    let contest = chain::rival::contest(samples, catalogue, settings, &mut ranking);
-    let listing = frame_list::list(samples, settings.width, settings.height, settings.threshold);
-    contested(room, listing.report, contest, catalogue)
+    let contest = chain::rival::contest(
+        input.samples,
+        input.catalogue,
+        input.settings,
+        &mut ranking,
+    );
+    contested(room, input.report(), contest, input.catalogue)
 }
 
 // Puts the lines at the start of the room, leaves the rest as it is, and answers how many bytes they have. A room of fewer than 2,048 bytes gets none.

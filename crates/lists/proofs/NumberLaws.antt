@@ -2,7 +2,13 @@
 use Rattle.std.specs.Prelude.{Bool, true, false, ◌≡◌, refl, ℕ, zero, suc, ◌+◌, ◌*◌, ◌≤◌, ◌<◌}
 use Rattle.std.proofs.Common.{sym, ap, ◌∙◌, mul-suc, not-suc-le-zero, add-one, arith}
 use Rattle.std.proofs.Math.Decide.{ℕ_discrete}
+use mir.Val.{bool_byte}
 use Rattle.lists.specs.Number.{one, number, pairs}
+
+-- a test as the code makes a number of it
+pub byte_one : (b : Bool) → bool_byte b ≡ one b
+byte_one true = refl
+byte_one false = refl
 
 pub one-most : (b : Bool) → one b ≤ 1
 one-most true = omega arith

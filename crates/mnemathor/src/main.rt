@@ -4,19 +4,21 @@
 ghost use Rattle.std.specs.Prelude.{◌≤◌, length};
 
 use catalogue::{MOST_RECORDS, RECORD_SIZE};
+use files::{MOST_SAMPLES, SETTINGS_SIZE};
 use std::fs::File;
 use std::io;
 use std::io::Read;
 use std::rt::Files;
 
 // Each buffer has room for one byte more than its file may have, so that a file that is too long is seen to be.
-const SETTINGS_ROOM: usize = 33;
+const SETTINGS_ROOM: usize = SETTINGS_SIZE + 1;
 
-const FRAME_ROOM: usize = 64001;
+const FRAME_ROOM: usize = 2 * MOST_SAMPLES + 1;
 
 const CATALOGUE_ROOM: usize = RECORD_SIZE * MOST_RECORDS + 1;
 
 // Reads until the buffer is full, the file ends or a read fails, and answers how many bytes it put there.
+// Stays: `fill`, `read` and `show` are the desk's too. A library that both called would rest on std's files, and no library but the trials' does.
 fn fill(file: &mut impl Read, buffer: &mut [u8]) -> usize
     ensures { result ≤ length buffer.new }
 {
@@ -32,10 +34,10 @@ fn fill(file: &mut impl Read, buffer: &mut [u8]) -> usize
 }
 
 // Reads a file into the buffer and answers how many bytes it put there. A missing file counts as empty.
-fn read(rt: &impl Files, name: &str, buffer: &mut [u8]) -> usize
+fn read(rt: &impl Files, path: &str, buffer: &mut [u8]) -> usize
     ensures { result ≤ length buffer.new }
 {
-    match File::open(rt, name) {
+    match File::open(rt, path) {
         Ok(mut file) => fill(&mut file, buffer),
         Err(_) => 0,
     }
@@ -45,7 +47,7 @@ fn read(rt: &impl Files, name: &str, buffer: &mut [u8]) -> usize
 fn show(rt: &(impl Print + Eprint), listing: &[u8]) -> io::Result<()> {
     let written = rt.write_all(listing);
     if written.is_err() {
-        let _ = eprintln!(rt; "mnemathor: the listing was not written");
+        let _ = rt.eprintln("mnemathor: the listing was not written");
     }
     written
 }

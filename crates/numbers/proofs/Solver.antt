@@ -1,9 +1,9 @@
 -- Identities of the whole numbers, proved by multiplying out. An identity is given by two expressions over the same list of numbers; their difference is
 -- brought to a sum of products with equal products gathered, and where every coefficient is 0 the two sides are equal: `ring numbers left right tt`.
 -- The solver computes on the expressions alone, so a wrong identity leaves `tt` without a type. Assumes nothing.
-use Rattle.std.specs.Prelude.{◌≡◌, Bool, cond, not, ◌&&◌, ℕ, zero, suc, ◌≤◌, T, eqb, leb}
+use Rattle.std.specs.Prelude.{◌≡◌, Bool, cond, ℕ, T, eqb, leb}
 use Rattle.std.proofs.Math.Path.{refl, sym, ap}
-use Rattle.std.proofs.Common.{◌∙◌, subst, eqb→eq}
+use Rattle.std.proofs.Common.{◌∙◌, eqb→eq}
 use Rattle.std.proofs.Math.Bool.{true, false}
 use mathlib.Core.List.{List, [], ◌∷◌}
 use Rattle.std.specs.Float.Ieee.Fits.{and_l, and_r}

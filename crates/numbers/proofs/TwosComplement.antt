@@ -1,8 +1,7 @@
 -- Two's complement: a word in the lower half of its width's words stands for itself, one in the upper half for the number that is their count below it.
 -- Assumes nothing.
-use Rattle.std.specs.Prelude.{cond, ◌≡◌, refl, ℕ, zero, suc, ◌+◌, ◌-◌, ◌≤◌, ◌<◌, ltb, ℤ, pos, negsuc, ◌-ℤ◌}
-use Rattle.std.proofs.Common.{ap, ◌∙◌, add-zero, arith, lt-ltb, le-ltb}
-use Rattle.std.proofs.Math.IntN.{+ℤ_idl}
+use Rattle.std.specs.Prelude.{◌≡◌, ℕ, suc, ◌+◌, ◌≤◌, pos, negsuc, ◌-ℤ◌}
+use Rattle.std.proofs.Common.{ap, ◌∙◌, arith, lt-ltb}
 use Rattle.numbers.specs.TwosComplement.{signed_by, signed_high}
 
 -- in plain terms: in the upper half it is the word less the count of the words, suc m

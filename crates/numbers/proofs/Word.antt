@@ -9,7 +9,7 @@ use lib.Count.{count_leading_zeros, leading_top}
 use borrow.Author.Tests.{le-leb, lt-leb}
 use lib.Dec.{lit<}
 use lib.Pow.{pow-add, pow_mono, pow_pos, shl_exact}
-use Rattle.numbers.specs.Root.{Root, root, root_is, root-of, square-root, square-next}
+use Rattle.numbers.specs.Root.{Root, root, root_is, square-root, square-next}
 use Rattle.numbers.specs.Near.{Near}
 use Rattle.numbers.specs.Steps.{half, guess, steps, settle}
 use Rattle.numbers.proofs.Heron.{side-lt, first, closer, accuracy, accuracy-least}

@@ -1,14 +1,12 @@
 -- Identities of the whole numbers, proved by multiplying out. An identity is given by two expressions over the same list of numbers; their difference is
 -- brought to a sum of products with equal products gathered, and where every coefficient is 0 the two sides are equal: `ring numbers left right tt`.
 -- The solver computes on the expressions alone, so a wrong identity leaves `tt` without a type. Assumes nothing.
-use Rattle.std.specs.Prelude.{◌≡◌, Bool, cond, not, ◌&&◌, ℕ, zero, suc, ◌≤◌, T, eqb, leb}
-use Rattle.std.proofs.Math.Path.{refl, sym, ap}
-use Rattle.std.proofs.Common.{◌∙◌, subst, eqb→eq}
+use Rattle.std.specs.Prelude.{◌≡◌, Bool, cond, not, ◌&&◌, ℕ, zero, suc, T, eqb, leb}
+use Rattle.std.proofs.Math.Path.{sym, ap}
+use Rattle.std.proofs.Common.{◌∙◌}
 use Rattle.std.proofs.Math.Bool.{true, false}
 use mathlib.Core.List.{List, [], ◌∷◌}
-use Rattle.std.specs.Float.Ieee.Fits.{and_l, and_r}
-use lib.IntN.{ℤ, pos, negsuc, neg_ℤ, ◌+ℤ◌, ◌-ℤ◌, ◌*ℤ◌, +ℤ_idl, +ℤ_idr, +ℤ_assoc, +ℤ_comm, +ℤ_invr, -ℤ-+ℤ_cancel, zero-*ℤ, *ℤ-zero, *ℤ_comm, *ℤ-one}
-use Rattle.numbers.specs.Ring.{left_comm, mul-add, add-mul, neg-mul, mul_assoc}
+use lib.IntN.{ℤ, pos, negsuc, ◌+ℤ◌, ◌-ℤ◌, ◌*ℤ◌, +ℤ_idl, -ℤ-+ℤ_cancel}
 
 -- ---- expressions; a number stands in one as its place in the list
 

@@ -1,11 +1,11 @@
 -- A quotient toward zero with what it leaves over, and a bound carried through the division. Assumes nothing.
-use Rattle.std.specs.Prelude.{◌≡◌, refl, ℕ, zero, suc, ◌+◌, ◌*◌, ◌/◌, ◌%◌, ◌≤◌, ◌<◌, ℤ, pos, negsuc, neg_ℤ, nat_abs, ◌+ℤ◌, ◌-ℤ◌, ◌*ℤ◌}
-use Rattle.std.proofs.Common.{sym, ap, ◌∙◌, subst, le_refl, le_trans, le_of_lt, mul_comm, mod-lt, arith}
+use Rattle.std.specs.Prelude.{◌≡◌, ℕ, suc, ◌+◌, ◌*◌, ◌/◌, ◌%◌, ◌≤◌, ◌<◌, ℤ, pos, negsuc, neg_ℤ, ◌+ℤ◌, ◌*ℤ◌}
+use Rattle.std.proofs.Common.{sym, ap, ◌∙◌, subst, le_refl, le_trans, le_of_lt, mod-lt, arith}
 use Rattle.std.proofs.Math.Nat.{div-add-mod, le_of_mul-le-mul_left}
 use Rattle.std.proofs.Math.IntN.{*ℤ_comm, neg_ℤ-+ℤ}
 use Rattle.std.specs.Int.Signed.{quot_z}
 use Rattle.numbers.specs.Abs.{abs_neg, abs-mul}
-use Rattle.numbers.specs.Within.{Within, wider}
+use Rattle.numbers.specs.Within.{Within}
 use Rattle.numbers.specs.Ring.{neg-mul}
 
 -- z is p q and a rest no larger than p

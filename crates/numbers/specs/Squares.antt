@@ -1,7 +1,7 @@
 -- Squares of signed numbers, numbers that lie near each other, and three numbers that are drawn out to a length of 10^9: what the quotients toward zero leave
 -- of that length. Assumes nothing.
-use Rattle.std.specs.Prelude.{◌≡◌, refl, Bool, true, false, cond, not, ℕ, zero, suc, ◌+◌, ◌-◌, ◌*◌, ◌/◌, ◌≤◌, ◌<◌, T, ltb, ℤ, pos, negsuc, nat_abs, ◌+ℤ◌, ◌-ℤ◌, ◌*ℤ◌}
-use Rattle.std.proofs.Common.{sym, ap, ◌∙◌, mul-le-mul, mul-le-mul_left, mod-lt, arith, ltb→lt, nltb→le}
+use Rattle.std.specs.Prelude.{◌≡◌, refl, Bool, true, false, cond, not, ℕ, zero, suc, ◌+◌, ◌-◌, ◌*◌, ◌/◌, ◌≤◌, ◌<◌, T, ltb, ℤ, pos, negsuc, nat_abs, ◌-ℤ◌, ◌*ℤ◌}
+use Rattle.std.proofs.Common.{ap, mul-le-mul, mul-le-mul_left, mod-lt, arith, ltb→lt, nltb→le}
 use Rattle.std.proofs.Math.Nat.{div-add-mod, le_of_mul-le-mul_left}
 use Rattle.std.proofs.Math.Decide.{dec_le}
 use Rattle.std.proofs.Math.IntN.{ -ℤ-+ℤ_cancel}

@@ -1,7 +1,7 @@
 -- Two's complement: a word in the lower half of its width's words stands for itself, one in the upper half for the number that is their count below it.
 -- Assumes nothing.
 use Rattle.std.specs.Prelude.{cond, ◌≡◌, refl, ℕ, zero, suc, ◌+◌, ◌-◌, ◌≤◌, ◌<◌, ltb, ℤ, pos, negsuc, ◌-ℤ◌}
-use Rattle.std.proofs.Common.{ap, ◌∙◌, add-zero, arith, lt-ltb, le-ltb}
+use Rattle.std.proofs.Common.{ap, ◌∙◌, add-zero, lt-ltb, le-ltb}
 use Rattle.std.proofs.Math.IntN.{+ℤ_idl}
 
 -- by half the count of the words; `negsuc k` is -(k + 1)

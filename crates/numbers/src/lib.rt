@@ -6,15 +6,11 @@ ghost use Rattle.numbers.specs.Root.{root as root_of};
 ghost use Rattle.numbers.specs.TwosComplement.{half64, signed_of, signed32_of};
 ghost use Rattle.numbers.specs.Steps.{guess, steps, settle};
 
-// The size of x. The least number has one too: it is moved up by one before its sign is turned.
+// The size of x. The least number has one too.
 pub fn abs(x: i64) -> u64
     ensures { result ≡ nat_abs x }
 {
-    if x < 0 {
-        (0 - (x + 1)) as u64 + 1
-    } else {
-        x as u64
-    }
+    x.unsigned_abs()
 }
 
 // Whether x lies within `bound` of 0.
@@ -24,38 +20,33 @@ pub fn within(x: i64, bound: u64) -> bool
     abs(x) <= bound
 }
 
-// The number n + 1 below zero. The one is taken off behind the sign, so that the least number fits on the way.
+// The number n + 1 below zero.
 pub fn negative(n: u64) -> i64
     requires { n < half64 }
     ensures { result ≡ negsuc n }
 {
-    0 - (n as i64) - 1
+    !(n as i64)
 }
 
 // Two's complement: the signed number that has the same 64 bits.
 pub fn signed(word: u64) -> i64
     ensures { result ≡ signed_of word }
 {
-    if word < 0x8000_0000_0000_0000 {
-        return word as i64;
-    }
-    negative(0xffff_ffff_ffff_ffff - word)
+    u64::cast_signed(word)
 }
 
 // The one that has the same 32 bits.
 pub fn signed_32(word: u32) -> i32
     ensures { result ≡ signed32_of word }
 {
-    if word < 0x8000_0000 {
-        return word as i32;
-    }
-    negative((0xffff_ffff - word) as u64) as i32
+    u32::cast_signed(word)
 }
 
 // How many passes the root takes. T-02 asks for at most 16; after three the guess is the root or one more.
 const PASSES: u64 = 3;
 
 // A root, and the number of passes through the loop that found it.
+// Stays: the passes are handed out, since the promise of `root_in_passes` and the edit root_false_count speak of them.
 #[derive(Clone, Copy)]
 struct Rooted {
     root: u64,
@@ -67,7 +58,7 @@ fn first_guess(n: u64) -> u64
     requires { 0 < n }
     ensures { result ≡ guess n }
 {
-    let half = (64 - u64::leading_zeros(n)) / 2;
+    let half = (64 - n.leading_zeros()) / 2;
     ((1u64 << half) + (n >> half)) / 2
 }
 
@@ -92,14 +83,9 @@ fn root_in_passes(n: u64) -> Rooted
     }
     let x = guess_after(n, PASSES);
     // the square of the guess, less 1, fits where the square may not
-    if (x - 1) * (x + 1) < n {
-        return Rooted {
-            root: x,
-            passes: PASSES,
-        };
-    }
+    let root = if (x - 1) * (x + 1) < n { x } else { x - 1 };
     Rooted {
-        root: x - 1,
+        root,
         passes: PASSES,
     }
 }

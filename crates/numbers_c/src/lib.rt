@@ -1,4 +1,5 @@
 // The root for C and Rust: the benchmark times it by itself.
+// Stays: a twin of `numbers::mnemathor_root`, since C links this archive and calls it by its name.
 #![tactic(auto)]
 
 ghost use Rattle.std.specs.Prelude.{◌≡◌};

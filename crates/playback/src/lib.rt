@@ -2,11 +2,13 @@
 #![tactic(auto)]
 
 mod print; // print.rt: lines of numbers
+mod shot; // shot.rt: what a recorded frame comes with
 mod stream; // stream.rt: numbers and buffers
 
 pub use print::{
     bytes_checksum, checksum, print_call, print_end, print_floats, print_more, print_numbers,
 };
+pub use shot::Shot;
 pub use stream::{
     byte, expand, float, half, read_directions, read_floats, read_wholes, read_words, signed_half,
     word,

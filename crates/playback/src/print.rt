@@ -1,21 +1,21 @@
 // Lines of numbers on standard output.
-ghost use Rattle.std.specs.Prelude.{◌≡◌, ◌<◌};
+ghost use Rattle.std.specs.Prelude.{◌≡◌};
 ghost use Rattle.playback.specs.Sum.{sum_of};
 
 use std::io;
 
-// The first n of some numbers, each behind a space.
-pub fn print_numbers(rt: &impl Print, numbers: &[i64], n: usize) -> io::Result<()> {
-    for x in numbers.iter().take(n) {
+// Some numbers, each behind a space.
+pub fn print_numbers(rt: &impl Print, numbers: &[i64]) -> io::Result<()> {
+    for x in numbers {
         print!(rt; " {x}")?;
     }
     Ok(())
 }
 
-// The kind of a call and the first n numbers that it handed over.
-pub fn print_call(rt: &impl Print, kind: u64, out: &[i64], n: usize) -> io::Result<()> {
+// The kind of a call and the numbers that it handed over.
+pub fn print_call(rt: &impl Print, kind: u64, out: &[i64]) -> io::Result<()> {
     print!(rt; "{kind}")?;
-    print_numbers(rt, out, n)
+    print_numbers(rt, out)
 }
 
 // One more number of a line.
@@ -25,8 +25,8 @@ pub fn print_more(rt: &impl Print, n: u64) -> io::Result<()> {
 
 // A float by its bits. Any pattern that is not a number stands for any other, and all ones are printed for it.
 fn print_float(rt: &impl Print, x: f64) -> io::Result<()> {
-    if x != x {
-        print_more(rt, 0xffff_ffff_ffff_ffff)
+    if x.is_nan() {
+        print_more(rt, u64::MAX)
     } else {
         print_more(rt, floats::bits_of(x))
     }
@@ -43,36 +43,26 @@ pub fn print_end(rt: &impl Print) -> io::Result<()> {
     println!(rt; "")
 }
 
-fn wide(x: u16) -> u64
-    ensures { (result ≡ x) × (result < 65536) }
-{
-    x as u64
-}
-
 // A sum that tells rooms apart.
 pub fn checksum(room: &[u16]) -> u64
     ensures { result ≡ sum_of room.now }
 {
     let mut sum: u64 = 0;
-    for x in room {
-        sum = (sum * 31 + wide(*x) + 1) % 1000003;
+    for sample in room {
+        sum = (sum * 31 + u64::from(*sample) + 1) % 1000003;
     }
     sum
 }
 
-fn byte(x: u8) -> u64
-    ensures { (result ≡ x) × (result < 256) }
-{
-    x as u64
-}
-
 // The same of a room of bytes.
+// Stays: a loop of its own: the closure of a `fold` may be called at any sum, so it would reduce the sum once more against an overflow, and one function for
+// both would take the numbers by a closure and a clause that ties each to its element.
 pub fn bytes_checksum(room: &[u8]) -> u64
     ensures { result ≡ sum_of room.now }
 {
     let mut sum: u64 = 0;
-    for x in room {
-        sum = (sum * 31 + byte(*x) + 1) % 1000003;
+    for byte in room {
+        sum = (sum * 31 + u64::from(*byte) + 1) % 1000003;
     }
     sum
 }

@@ -6,40 +6,14 @@ use std::io::Read;
 
 // Reads until the room is full, the file ends or a read fails. What is left of the room stays as it was.
 fn fill(file: &mut impl Read, room: &mut [u8]) {
-    let mut done = 0;
-    for _ in 0..room.len() {
-        let n = file.read(&mut room[done..]).unwrap_or(0);
-        if n == 0 {
-            break;
-        }
-        done += n;
-    }
+    let _ = file.read_exact(room);
 }
 
-fn wide(x: u8) -> u64
-    ensures { result < 256 }
-{
-    x as u64
-}
-
-// The byte i places behind `at`, and 0 past the end.
-fn byte_at(bytes: &[u8], at: usize, i: usize) -> u64
-    ensures { result < 256 }
-{
-    if bytes.len() <= at {
-        return 0;
-    }
-    if bytes.len() - at <= i {
-        return 0;
-    }
-    wide(bytes[at + i])
-}
-
-// The number that n bytes from a place on make; of more than 8 the last 8 count.
-fn number(bytes: &[u8], at: usize, n: usize) -> u64 {
+// The number that some bytes make; of more than 8 the last 8 count.
+fn number(bytes: &[u8]) -> u64 {
     let mut value: u64 = 0;
-    for i in 0..n {
-        value = value % 0x100_0000_0000_0000 * 256 + byte_at(bytes, at, i);
+    for byte in bytes {
+        value = value % 0x100_0000_0000_0000 * 256 + u64::from(*byte);
     }
     value
 }
@@ -48,14 +22,14 @@ fn number(bytes: &[u8], at: usize, n: usize) -> u64 {
 pub fn byte(file: &mut impl Read) -> u64 {
     let mut one = [0u8; 1];
     fill(file, &mut one);
-    number(&one, 0, 1)
+    number(&one)
 }
 
 // The next word of the file, 8 bytes.
 pub fn word(file: &mut impl Read) -> u64 {
     let mut eight = [0u8; 8];
     fill(file, &mut eight);
-    number(&eight, 0, 8)
+    number(&eight)
 }
 
 // The next word, of which the last 4 bytes count.
@@ -70,41 +44,19 @@ pub fn float(file: &mut impl Read) -> f64 {
 
 // How many bytes n elements have, at most as many as there is room for.
 fn size_of(n: u64, width: usize, most: usize) -> usize
-    requires { width ≤ 8 }
     ensures { result ≤ most }
 {
-    if 3000000 <= n {
-        return most;
-    }
-    let size = n as usize * width;
-    if size < most { size } else { most }
+    (n as usize).saturating_mul(width).min(most)
 }
 
-// The byte that stands `back` before place i, and 0 where there is none.
-fn earlier(room: &[u8], i: usize, back: usize) -> u8 {
-    if back == 0 {
-        return 0;
+// Goes on with the pattern in the first `from` bytes up to the room's end; with zeros where it is empty.
+fn repeat(room: &mut [u8], from: usize) {
+    if from == 0 {
+        room.fill(0);
+        return;
     }
-    if i < back {
-        return 0;
-    }
-    if room.len() <= i - back {
-        return 0;
-    }
-    room[i - back]
-}
-
-fn put(room: &mut [u8], i: usize, x: u8) {
-    if i < room.len() {
-        room[i] = x;
-    }
-}
-
-// Goes on with the pattern in the first `from` bytes up to `to`; with zeros where it is empty.
-fn repeat(room: &mut [u8], from: usize, to: usize) {
-    for i in from..to {
-        let x = earlier(room, i, from);
-        put(room, i, x);
+    for i in from..room.len() {
+        room[i] = room[i - from];
     }
 }
 
@@ -116,8 +68,7 @@ fn patch(file: &mut impl Read, width: usize, room: &mut [u8])
     if room.len() - at < width {
         return;
     }
-    let end = at + width;
-    fill(file, &mut room[at..end]);
+    fill(file, &mut room[at..at + width]);
 }
 
 fn patches(file: &mut impl Read, width: usize, room: &mut [u8])
@@ -136,85 +87,62 @@ pub fn expand(file: &mut impl Read, width: usize, room: &mut [u8]) -> usize
 {
     let size = size_of(word(file), width, room.len());
     let front = size_of(word(file), width, size);
-    fill(file, &mut room[0..front]);
-    repeat(room, front, size);
+    fill(file, &mut room[..front]);
+    repeat(&mut room[..size], front);
     patches(file, width, room);
     size
-}
-
-fn least(a: usize, b: usize) -> usize
-    ensures { (result ≤ a) × (result ≤ b) }
-{
-    if a < b { a } else { b }
-}
-
-// The numbers of two bytes each, at the start of the room.
-fn words(bytes: &[u8], room: &mut [u16]) -> usize
-    ensures upper_bound { result ≤ length room.new }
-    ensures room_unchanged { drop result room.new ≡ drop result room.old }
-{
-    let count = least(bytes.len() / 2, room.len());
-    for i in 0..count {
-        room[i] = (number(bytes, 2 * i, 2) % 65536) as u16;
-    }
-    count
 }
 
 // The number of 4 bytes, signed.
 pub fn signed_half(n: u64) -> i32
     ensures { result ≡ signed_half n }
 {
-    let half = n % 0x1_0000_0000;
-    if half < 0x8000_0000 {
-        half as i32
-    } else {
-        0 - ((0xffff_ffff - half) as i32) - 1
-    }
+    let half = (n % 0x1_0000_0000) as u32;
+    numbers::signed_32(half)
 }
 
-// The signed numbers of 4 bytes each, at the start of the room.
-fn halves(bytes: &[u8], room: &mut [i32]) -> usize
+// The elements of some bytes each, at the start of the room, and how many there are.
+fn elements<T: Copy, F: Fn(u64) -> T>(
+    bytes: &[u8],
+    width: usize,
+    room: &mut [T],
+    element: F,
+) -> usize
+    requires width_positive { 0 < width }
+    requires callable { F.IsAlwaysCallable element }
     ensures upper_bound { result ≤ length room.new }
     ensures room_unchanged { drop result room.new ≡ drop result room.old }
 {
-    let count = least(bytes.len() / 4, room.len());
-    for i in 0..count {
-        room[i] = signed_half(number(bytes, 4 * i, 4));
+    let count = (bytes.len() / width).min(room.len());
+    for (place, bytes) in room[..count].iter_mut().zip(bytes.chunks_exact(width)) {
+        *place = element(number(bytes));
     }
     count
 }
 
-// The signed numbers of 8 bytes each, at the start of the room.
-fn wholes(bytes: &[u8], room: &mut [i64]) -> usize
+// Reads a buffer of elements, and answers how many it has. `bytes` is room to expand it in.
+fn read<T: Copy, F: Fn(u64) -> T>(
+    file: &mut impl Read,
+    width: usize,
+    bytes: &mut [u8],
+    room: &mut [T],
+    element: F,
+) -> usize
+    requires width_in_range { (0 < width) × (width ≤ 8) }
+    requires callable { F.IsAlwaysCallable element }
     ensures upper_bound { result ≤ length room.new }
     ensures room_unchanged { drop result room.new ≡ drop result room.old }
 {
-    let count = least(bytes.len() / 8, room.len());
-    for i in 0..count {
-        room[i] = numbers::signed(number(bytes, 8 * i, 8));
-    }
-    count
+    let size = expand(file, width, bytes);
+    elements(&bytes[..size], width, room, element)
 }
 
-// The floats whose bits are 8 bytes each, at the start of the room.
-fn doubles(bytes: &[u8], room: &mut [f64]) -> usize
-    ensures upper_bound { result ≤ length room.new }
-    ensures room_unchanged { drop result room.new ≡ drop result room.old }
-{
-    let count = least(bytes.len() / 8, room.len());
-    for i in 0..count {
-        room[i] = floats::float_of(number(bytes, 8 * i, 8));
-    }
-    count
-}
-
-// Reads a buffer of samples or of ranking words, and answers how many it has. `bytes` is room to expand it in.
+// Reads a buffer of samples or of ranking words.
 pub fn read_words(file: &mut impl Read, bytes: &mut [u8], room: &mut [u16]) -> usize
     ensures upper_bound { result ≤ length room.new }
     ensures room_unchanged { drop result room.new ≡ drop result room.old }
 {
-    let size = expand(file, 2, bytes);
-    words(&bytes[0..size], room)
+    read(file, 2, bytes, room, |n| (n % 65536) as u16)
 }
 
 // Reads a buffer of directions.
@@ -222,8 +150,7 @@ pub fn read_directions(file: &mut impl Read, bytes: &mut [u8], room: &mut [i32])
     ensures upper_bound { result ≤ length room.new }
     ensures room_unchanged { drop result room.new ≡ drop result room.old }
 {
-    let size = expand(file, 4, bytes);
-    halves(&bytes[0..size], room)
+    read(file, 4, bytes, room, signed_half)
 }
 
 // Reads a buffer of the attitude's numbers, or of a matrix.
@@ -231,8 +158,7 @@ pub fn read_wholes(file: &mut impl Read, bytes: &mut [u8], room: &mut [i64]) -> 
     ensures upper_bound { result ≤ length room.new }
     ensures room_unchanged { drop result room.new ≡ drop result room.old }
 {
-    let size = expand(file, 8, bytes);
-    wholes(&bytes[0..size], room)
+    read(file, 8, bytes, room, numbers::signed)
 }
 
 // Reads a buffer of floats.
@@ -240,6 +166,5 @@ pub fn read_floats(file: &mut impl Read, bytes: &mut [u8], room: &mut [f64]) -> 
     ensures upper_bound { result ≤ length room.new }
     ensures room_unchanged { drop result room.new ≡ drop result room.old }
 {
-    let size = expand(file, 8, bytes);
-    doubles(&bytes[0..size], room)
+    read(file, 8, bytes, room, floats::float_of)
 }

@@ -1,5 +1,5 @@
 -- A small ranking, computed from the definitions: the directions are the stars themselves, two axes and a third between them. Assumes nothing.
-use Rattle.std.specs.Prelude.{◌≡◌, refl, List, [], ◌∷◌, ℕ, ℤ, pos}
+use Rattle.std.specs.Prelude.{◌≡◌, refl, List, [], ◌∷◌, ℤ, pos}
 use Rattle.vectors.specs.Triples.{triple_at, pair_dot}
 use Rattle.vectors.specs.Agree.{agreeing}
 use Rattle.lists.specs.Order.{put, ordered}

@@ -1,6 +1,5 @@
 -- What the call that ranks answers, and what becomes of the room. Assumes nothing.
 use Rattle.std.specs.Prelude.{cond, not, List, [], ◌++◌, ℕ, ◌*◌, ℤ, length, drop}
-use Rattle.refusal.specs.declared.Outcome.{Outcome}
 use Rattle.refusal.specs.Table.{first_applying, answered}
 use Rattle.refusal.specs.Answer.{Answer, refused_with, accepted_with}
 use Rattle.camera_direction.specs.List.{list_ok}
@@ -10,9 +9,11 @@ use Rattle.catalogue.specs.Check as catalogue
 use Rattle.catalogue.specs.Stars.{stars_of}
 use Rattle.ranking.specs.Ranking.{ranking_of}
 use Rattle.ranking.specs.Refusals.{tolerance_ok, room_short, refusals_of}
+use Rattle.std.specs.Prelude.{Result}
+use Rattle.refusal.specs.declared.Refusal.{Refusal}
 
 -- the refusal, or that the call is accepted
-unfoldable pub rank_outcome_of : List ℤ → List ℕ → ℕ → List ℕ → Outcome
+unfoldable pub rank_outcome_of : List ℤ → List ℕ → ℕ → List ℕ → Result Unit Refusal
 rank_outcome_of directions bytes tolerance room = first_applying (refusals_of directions bytes tolerance (length room))
 
 -- the ranking at the front and the other words as they were; a refusal changes no word

@@ -1,11 +1,9 @@
 -- What the call that ranks is for: when it is accepted, and what it leaves in the room. Assumes nothing.
-use Rattle.std.specs.Prelude.{◌≡◌, refl, List, ◌++◌, ℕ, ◌+◌, ◌*◌, ◌≤◌, ℤ, length, take, drop}
+use Rattle.std.specs.Prelude.{◌≡◌, refl, List, ◌++◌, ℕ, ◌*◌, ◌≤◌, ℤ, length, take, drop}
 use Rattle.std.proofs.Common.{sym, ap, subst, ◌∙◌, arith, leb-true, ltb-false, take_at, drop_at}
 use Rattle.std.proofs.lemmas.Bool.{not-false}
 use Rattle.lists.specs.Contradiction.{contradiction}
 use Rattle.refusal.specs.declared.Refusal.{Refusal}
-use Rattle.refusal.specs.declared.Outcome.{Outcome}
-use Rattle.refusal.specs.declared.Outcome.TheVariants.{Accepted, Refused}
 use Rattle.refusal.specs.Table.{first_applying}
 use Rattle.refusal.specs.Laws.{Silent}
 use Rattle.refusal.proofs.Laws.{accepted-silent}
@@ -26,6 +24,7 @@ use Rattle.ranking.specs.Laws.{Ranks, ranks}
 use Rattle.ranking.specs.Refusals.{tolerance_ok, rows_beside, refusals_of}
 use Rattle.ranking.specs.RefusalSteps.{none-refused, outcome-joined}
 use Rattle.ranking.specs.Room.{rank_outcome_of, room_after, answer_for}
+use Rattle.std.specs.Prelude.{Result, Ok, Err}
 
 -- the call keeps every rule
 pub record Sound (directions : List ℤ) (bytes : List ℕ) (tolerance words : ℕ) : Type 0 where
@@ -35,7 +34,7 @@ pub record Sound (directions : List ℤ) (bytes : List ℕ) (tolerance words : �
   pub room : directions_in directions * records_in bytes ≤ words
 
 -- none of 8, 9 and 10 applies
-pub beside-sound : (directions : List ℤ) (stars tolerance words : ℕ) → first_applying (rows_beside directions stars tolerance words) ≡ Accepted
+pub beside-sound : (directions : List ℤ) (stars tolerance words : ℕ) → first_applying (rows_beside directions stars tolerance words) ≡ Ok tt
     → Directions directions × (tolerance ≤ 10000000000000000) × (directions_in directions * stars ≤ words)
 unfolding rows_beside Silent
 beside-sound directions stars tolerance words e =
@@ -47,18 +46,18 @@ beside-sound directions stars tolerance words e =
 
 module _ (directions : List ℤ) (bytes : List ℕ) (tolerance words : ℕ) where
   -- accepted exactly where it does
-  pub accepted-sound : first_applying (refusals_of directions bytes tolerance words) ≡ Accepted → Sound directions bytes tolerance words
+  pub accepted-sound : first_applying (refusals_of directions bytes tolerance words) ≡ Ok tt → Sound directions bytes tolerance words
   accepted-sound h = go (first_applying (catalogue.refusals_of bytes)) refl
     where
-      go : (o : Outcome) → first_applying (catalogue.refusals_of bytes) ≡ o → Sound directions bytes tolerance words
-      go Accepted e =
+      go : (o : Result Unit Refusal) → first_applying (catalogue.refusals_of bytes) ≡ o → Sound directions bytes tolerance words
+      go (Ok _) e =
           let b = beside-sound directions (records_in bytes) tolerance words (sym (outcome-joined directions bytes tolerance words e) ∙ h) in
           record { catalogue = accepted-valid bytes e; list = b.0; near = b.1; room = b.2 }
-      go (Refused r) e =
-          let d : Refused r ≡ Accepted = sym (outcome-joined directions bytes tolerance words e) ∙ h in
+      go (Err r) e =
+          let d : Err r ≡ (Ok tt) = sym (outcome-joined directions bytes tolerance words e) ∙ h in
           contradiction (cc)
 
-  pub sound-accepted : Sound directions bytes tolerance words → first_applying (refusals_of directions bytes tolerance words) ≡ Accepted
+  pub sound-accepted : Sound directions bytes tolerance words → first_applying (refusals_of directions bytes tolerance words) ≡ Ok tt
   sound-accepted s =
       outcome-joined directions bytes tolerance words (valid-accepted bytes s.catalogue)
       ∙ none-refused directions (records_in bytes) tolerance words (directions-ok directions s.list) s.near s.room
@@ -81,17 +80,17 @@ module _ (directions : List ℤ) (bytes : List ℕ) (tolerance : ℕ) (room : Li
   answers = outcome-by (refusals_of directions bytes tolerance (length room))
 
   -- a refusal leaves the room as found
-  pub room-kept : (r : Refusal) → rank_outcome_of directions bytes tolerance room ≡ Refused r → room_after directions bytes tolerance room ≡ room
+  pub room-kept : (r : Refusal) → rank_outcome_of directions bytes tolerance room ≡ Err r → room_after directions bytes tolerance room ≡ room
   unfolding room_after
   room-kept r e = rw e
 
   -- an accepted call leaves the ranking, and the words behind it as found
-  pub room-written : rank_outcome_of directions bytes tolerance room ≡ Accepted
+  pub room-written : rank_outcome_of directions bytes tolerance room ≡ Ok tt
       → room_after directions bytes tolerance room ≡ ranking_of directions (stars_of bytes) tolerance ++ drop (directions_in directions * records_in bytes) room
   unfolding room_after
   room-written e = rw e
 
-  module _ (e : rank_outcome_of directions bytes tolerance room ≡ Accepted) where
+  module _ (e : rank_outcome_of directions bytes tolerance room ≡ Ok tt) where
     call-sound : Sound directions bytes tolerance (length room)
     unfolding rank_outcome_of
     call-sound = accepted-sound directions bytes tolerance (length room) e

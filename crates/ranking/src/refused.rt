@@ -3,13 +3,13 @@ ghost use Rattle.std.specs.Prelude.{◌≡◌, ◌≤◌};
 ghost use Rattle.refusal.specs.Table.{first_applying};
 ghost use Rattle.ranking.specs.Refusals.{rows_beside, refusals_of};
 
-use refusal::{Counted, Outcome};
+use refusal::Refusal;
 
 // How large a tolerance may be.
 const LARGEST_TOLERANCE: u64 = 10000000000000000;
 
 // The first of 8, 9 and 10, beside a catalogue of so many stars and a room of so many words.
-pub fn beside(directions: &[i32], stars: usize, tolerance: u64, words: usize) -> Outcome
+pub fn beside(directions: &[i32], stars: usize, tolerance: u64, words: usize) -> Result<(), Refusal>
     requires { stars ≤ 512 }
     ensures { result ≡ first_applying (rows_beside directions.now stars tolerance words) }
 {
@@ -23,7 +23,7 @@ pub fn beside(directions: &[i32], stars: usize, tolerance: u64, words: usize) ->
     if words < directions.len() / 3 * stars {
         return refusal::plain(refusal::ROOM);
     }
-    Outcome::Accepted
+    Ok(())
 }
 
 // The first of 6 to 10 that applies.
@@ -32,12 +32,9 @@ pub(crate) fn first_refusal(
     catalogue: &[u8],
     tolerance: u64,
     words: usize,
-) -> Outcome
+) -> Result<(), Refusal>
     ensures { result ≡ first_applying (refusals_of directions.now catalogue.now tolerance words) }
 {
-    let checked = catalogue::check(catalogue);
-    match checked {
-        Counted::Refused(r) => Outcome::Refused(r),
-        Counted::Count(stars) => beside(directions, stars, tolerance, words),
-    }
+    let stars = catalogue::check(catalogue)?;
+    beside(directions, stars, tolerance, words)
 }

@@ -3,8 +3,6 @@ use Rattle.std.specs.Prelude.{Bool, true, false, ◌≡◌, List, ◌++◌, ℕ,
 use Rattle.std.proofs.Math.Path.{refl, sym, ap}
 use Rattle.std.proofs.Common.{◌∙◌, arith}
 use Rattle.lists.specs.Contradiction.{contradiction}
-use Rattle.refusal.specs.declared.Outcome.{Outcome}
-use Rattle.refusal.specs.declared.Outcome.TheVariants.{Accepted, Refused}
 use Rattle.refusal.specs.Numbers as number
 use Rattle.refusal.specs.Table.{refusal_of, first_applying, answered, otherwise}
 use Rattle.refusal.specs.Answer.{answer_of}
@@ -30,12 +28,14 @@ use Rattle.ranking_by_index.specs.Call.{Call, rows_behind, refusals_of, outcome_
 use Rattle.ranking_by_index.specs.Stars.{room_from}
 use Rattle.ranking_by_index.specs.Steps.{wrong-index, right-index, written_from, refused-from}
 use Rattle.ranking_by_index.proofs.StepLaws.{joined, refused-room, valid-outcome}
+use Rattle.std.specs.Prelude.{Result, Ok, Err}
+use Rattle.refusal.specs.declared.Refusal.{Refusal}
 
 module _ (c : Call) where
   abbrev test : Bool
   test = is_index (stars_of c.catalogue) c.floor c.index
 
-  abbrev plain_outcome : Outcome
+  abbrev plain_outcome : Result Unit Refusal
   plain_outcome = rank_outcome_of c.directions c.catalogue c.tolerance c.room
 
   abbrev plain_room : List ℕ
@@ -65,28 +65,28 @@ module _ (c : Call) where
   unfolding room_after
   right-room e = ap (answered (λ _. c.room) plain_room) (right-outcome e) ∙ by plain_outcome refl
     where
-      by : (o : Outcome) → plain_outcome ≡ o → answered (λ _. c.room) plain_room o ≡ plain_room
-      by (Refused r) k = sym (plain-laws.room-kept c.directions c.catalogue c.tolerance c.room r k)
-      by Accepted k = refl
+      by : (o : Result Unit Refusal) → plain_outcome ≡ o → answered (λ _. c.room) plain_room o ≡ plain_room
+      by (Err r) k = sym (plain-laws.room-kept c.directions c.catalogue c.tolerance c.room r k)
+      by (Ok _) k = refl
 
   -- ---- any index
 
-  by-test : (t : Bool) → test ≡ t → Valid c.catalogue → outcome_of c ≡ Accepted → test ≡ true
+  by-test : (t : Bool) → test ≡ t → Valid c.catalogue → outcome_of c ≡ Ok tt → test ≡ true
   by-test true k v e = k
   by-test false k v e =
       let d = sym (joined c (valid-accepted c.catalogue v) ∙ wrong-index c.directions (stars_of c.catalogue) (records_in c.catalogue) c.index
       c.floor c.tolerance (length c.room) k) ∙ e in
       contradiction (cc)
 
-  accepted-catalogue : outcome_of c ≡ Accepted → Valid c.catalogue
+  accepted-catalogue : outcome_of c ≡ Ok tt → Valid c.catalogue
   accepted-catalogue e = go (first_applying (catalogue.refusals_of c.catalogue)) refl
     where
-      go : (o : Outcome) → first_applying (catalogue.refusals_of c.catalogue) ≡ o → Valid c.catalogue
-      go Accepted k = accepted-valid c.catalogue k
-      go (Refused r) k = let d : Refused r ≡ Accepted = sym (joined c k) ∙ e in contradiction (cc)
+      go : (o : Result Unit Refusal) → first_applying (catalogue.refusals_of c.catalogue) ≡ o → Valid c.catalogue
+      go (Ok _) k = accepted-valid c.catalogue k
+      go (Err r) k = let d : Err r ≡ (Ok tt) = sym (joined c k) ∙ e in contradiction (cc)
 
   -- an accepted call was handed the right one
-  pub accepted-right : outcome_of c ≡ Accepted → c.index ≡ index_of (stars_of c.catalogue) c.floor
+  pub accepted-right : outcome_of c ≡ Ok tt → c.index ≡ index_of (stars_of c.catalogue) c.floor
   accepted-right e = index-true (stars_of c.catalogue) c.floor c.index (by-test test refl (accepted-catalogue e) e)
 
   -- any other is 17, whatever the directions, the tolerance and the room are
@@ -104,10 +104,10 @@ module _ (c : Call) where
       counted : triples (stars_of c.catalogue) ≡ records_in c.catalogue
       counted = omega (arith, valid-length c.catalogue v)
 
-      go : (o : Outcome) → outcome_of c ≡ o → room_after c ≡ room_from c.directions (stars_of c.catalogue) c.index c.floor c.tolerance c.room
-      go (Refused r) e = refused-room c r e ∙ sym (refused-from c.directions (stars_of c.catalogue) c.index c.floor c.tolerance c.room r
+      go : (o : Result Unit Refusal) → outcome_of c ≡ o → room_after c ≡ room_from c.directions (stars_of c.catalogue) c.index c.floor c.tolerance c.room
+      go (Err r) e = refused-room c r e ∙ sym (refused-from c.directions (stars_of c.catalogue) c.index c.floor c.tolerance c.room r
           (sym (valid-outcome c v) ∙ e))
-      go Accepted e =
+      go (Ok _) e =
           right-room (accepted-right e)
           ∙ plain-laws.room-written c.directions c.catalogue c.tolerance c.room (sym (right-outcome (accepted-right e)) ∙ e)
           ∙ ap (λ (n : ℕ). ranking_of c.directions (stars_of c.catalogue) c.tolerance ++ drop (triples c.directions * n) c.room) (sym counted)

@@ -1,14 +1,11 @@
 -- The call's answer and room step by step, as the code meets them. Assumes nothing.
-use Rattle.std.specs.Prelude.{true, false, ◌≡◌, List, ◌++◌, ℕ, ◌*◌, ℤ, length, drop}
-use Rattle.std.proofs.Math.Bool.{not}
+use Rattle.std.specs.Prelude.{true, false, ◌≡◌, List, ℕ, ℤ, length}
 use Rattle.std.proofs.Common.{sym, ◌∙◌, arith}
 use Rattle.std.proofs.Math.Path.{ap}
 use Rattle.refusal.specs.declared.Refusal.{Refusal}
-use Rattle.refusal.specs.declared.Outcome.{Outcome}
-use Rattle.refusal.specs.declared.Outcome.TheVariants.{Accepted, Refused}
 use Rattle.refusal.specs.Numbers as number
 use Rattle.refusal.specs.Table.{refusal_of, first_applying, otherwise}
-use Rattle.refusal.proofs.Laws.{applying-here, applying-next, applying-append}
+use Rattle.refusal.proofs.Laws.{applying-append}
 use Rattle.catalogue.specs.Format.{records_in}
 use Rattle.catalogue.specs.Check as catalogue
 use Rattle.catalogue.specs.CheckLaws.{valid-accepted}
@@ -16,12 +13,12 @@ use Rattle.catalogue.specs.Stars.{stars_of}
 use Rattle.catalogue.specs.Valid.{Valid}
 use Rattle.catalogue.specs.ValidStars.{valid-length}
 use Rattle.vectors.specs.Triples.{triples}
-use Rattle.ranking.specs.Ranking.{ranking_of}
 use Rattle.ranking.specs.Refusals.{rows_beside}
 use Rattle.catalogue_index.specs.Check.{is_index}
 use Rattle.ranking_by_index.specs.Call.{Call, rows_behind, refusals_of, outcome_of, room_after}
-use Rattle.ranking_by_index.specs.Stars.{outcome_from, room_from}
+use Rattle.ranking_by_index.specs.Stars.{outcome_from}
 use Rattle.ranking_by_index.specs.Steps.{wrong-index, right-index}
+use Rattle.std.specs.Prelude.{Result, Err}
 
 module _ (directions stars : List ℤ) (index : List ℕ) (floor : ℤ) (tolerance words : ℕ) where
   pub wrong-from : is_index stars floor index ≡ false → outcome_from directions stars index floor tolerance words ≡ refusal_of number.index 0
@@ -34,16 +31,16 @@ module _ (directions stars : List ℤ) (index : List ℕ) (floor : ℤ) (toleran
   right-from e = right-index directions stars (triples stars) index floor tolerance words e
 
 module _ (c : Call) where
-  abbrev behind : Outcome
+  abbrev behind : Result Unit Refusal
   behind = first_applying (rows_behind c.directions (stars_of c.catalogue) (records_in c.catalogue) c.index c.floor c.tolerance
       (length c.room))
 
   -- the catalogue's outcome first
-  pub joined : {o : Outcome} → first_applying (catalogue.refusals_of c.catalogue) ≡ o → outcome_of c ≡ otherwise o behind
+  pub joined : {o : Result Unit Refusal} → first_applying (catalogue.refusals_of c.catalogue) ≡ o → outcome_of c ≡ otherwise o behind
   unfolding outcome_of refusals_of
-  joined e = applying-append (catalogue.refusals_of c.catalogue) _ ∙ ap (λ (o : Outcome). otherwise o behind) e
+  joined e = applying-append (catalogue.refusals_of c.catalogue) _ ∙ ap (λ (o : Result Unit Refusal). otherwise o behind) e
 
-  pub refused-room : (r : Refusal) → outcome_of c ≡ Refused r → room_after c ≡ c.room
+  pub refused-room : (r : Refusal) → outcome_of c ≡ Err r → room_after c ≡ c.room
   unfolding room_after
   refused-room r e = rw e
 

@@ -1,6 +1,5 @@
 -- The call that ranks with an index: its refusals, what it answers, and what becomes of the room. Assumes nothing.
 use Rattle.std.specs.Prelude.{cond, not, List, [], ◌∷◌, ◌++◌, ℕ, ℤ, length}
-use Rattle.refusal.specs.declared.Outcome.{Outcome}
 use Rattle.refusal.specs.Numbers as number
 use Rattle.refusal.specs.Table.{Row, row, first_applying, answered}
 use Rattle.refusal.specs.Answer.{Answer, refused_with, accepted_with}
@@ -12,6 +11,8 @@ use Rattle.catalogue.specs.Stars.{stars_of}
 use Rattle.ranking.specs.Refusals.{tolerance_ok, room_short, rows_beside}
 use Rattle.ranking.specs.Room as plain
 use Rattle.catalogue_index.specs.Check.{is_index}
+use Rattle.std.specs.Prelude.{Result}
+use Rattle.refusal.specs.declared.Refusal.{Refusal}
 
 pub record Call : Type 0 where
   pub directions : List ℤ
@@ -36,7 +37,7 @@ refusals_of c =
     ++ rows_behind c.directions (stars_of c.catalogue) (records_in c.catalogue) c.index c.floor c.tolerance (length c.room)
 
 -- the refusal, or that the call is accepted
-unfoldable pub outcome_of : Call → Outcome
+unfoldable pub outcome_of : Call → Result Unit Refusal
 outcome_of c = first_applying (refusals_of c)
 
 -- an accepted call leaves what the ranking by the plain rule leaves; a refusal changes no word

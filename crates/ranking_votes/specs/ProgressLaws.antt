@@ -7,7 +7,7 @@ use Rattle.std.proofs.Math.Nat.{le_trans}
 use Rattle.std.proofs.Math.ListN.{get_or-eq_default}
 use Rattle.vectors.specs.Triples.{triples, pair_dot}
 use Rattle.vectors.specs.Laws.{pair_comm}
-use Rattle.lists.specs.Number.{number, pairs}
+use Rattle.lists.specs.Number.{pairs}
 use Rattle.lists.proofs.NumberLaws.{number-most, number-none, pairs_next, pairs-most, pairs-same}
 use Rattle.ranking_votes.specs.Votes.{other, is_vote, votes_of, counters_of}
 use Rattle.ranking_votes.specs.Laws.{firsts-length, firsts_at}

@@ -24,10 +24,7 @@ fn place(lifted: u64) -> usize
 fn least(lifted: u64, tolerance: u64) -> u64
     ensures { result ≡ lifted - tolerance }
 {
-    if tolerance < lifted {
-        return lifted - tolerance;
-    }
-    0
+    lifted.saturating_sub(tolerance)
 }
 
 // The greatest.
@@ -36,13 +33,11 @@ fn greatest(lifted: u64, tolerance: u64) -> u64
     ensures upper_bound { result ≤ 6000000000000000000 }
     ensures by_index { (n : ℕ) → n ≤ 6000000000000000000 → n ≤ lifted + tolerance → n ≤ result }
 {
-    if tolerance < 6000000000000000000 - lifted {
-        return lifted + tolerance;
-    }
-    6000000000000000000
+    lifted.saturating_add(tolerance).min(6000000000000000000)
 }
 
 // Marks the places of all products that agree with q.
+// Stays: a mark is the number 1 and no bool, since the definition `Marks` of specs/Near says so of the table.
 fn mark(near: &mut [u8], q: i64, tolerance: u64)
     requires near_len { length near.old ≡ 5330 }
     requires within { Within 3000000000000000000 q }
@@ -50,12 +45,9 @@ fn mark(near: &mut [u8], q: i64, tolerance: u64)
     ensures marks { Marks near.new tolerance q }
 {
     let lifted = lift(q);
-    let end = place(greatest(lifted, tolerance));
-    let mut k = place(least(lifted, tolerance));
-    while k <= end {
-        near[k] = 1;
-        k += 1;
-    }
+    let first = place(least(lifted, tolerance));
+    let last = place(greatest(lifted, tolerance));
+    near[first..=last].fill(1);
 }
 
 // A table in which the places of all products that agree with one of these are marked.
@@ -64,10 +56,8 @@ pub(crate) fn marks_of(products: &[i64], tolerance: u64) -> [u8; 5330]
     ensures { AllMarked result products.now tolerance }
 {
     let mut near = [0u8; 5330];
-    let mut k: usize = 0;
-    while k < products.len() {
-        mark(&mut near, products[k], tolerance);
-        k += 1;
+    for q in products {
+        mark(&mut near, *q, tolerance);
     }
     near
 }

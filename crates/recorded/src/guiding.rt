@@ -1,39 +1,32 @@
-// The recorded calls of the guider. Its numbers are printed as they stand after the call.
+// The recorded calls of the guider.
+use crate::inputs::wholes;
+use crate::kind::Kind;
+use crate::player::Player;
+use crate::print::line_with_guider;
 use c_interface::guide;
 use numbers::signed;
-use playback::{print_call, print_end, print_numbers, read_wholes, word};
-use std::fs::File;
+use playback::word;
 use std::io;
 
-fn print_start(rt: &impl Print, half: i64, stars: &[i64], guider: &mut [i64]) -> io::Result<()> {
-    let mut out = [0i64; 64];
-    guide::mnemathor_guider_start(half, stars, guider, &mut out);
-    print_call(rt, 20, &out, 2)?;
-    print_numbers(rt, guider, guider.len())?;
-    print_end(rt)
-}
+impl<P: Print> Player<'_, P> {
+    pub fn guider_start(&mut self) -> io::Result<()> {
+        let half = signed(word(&mut self.file));
+        let mut stars = [0i64; 24];
+        let stars = wholes(&mut self.file, self.bytes, &mut stars);
+        let mut guider = [0i64; 24];
+        let guider = wholes(&mut self.file, self.bytes, &mut guider);
+        let mut out = [0i64; 64];
+        guide::mnemathor_guider_start(half, stars, guider, &mut out);
+        line_with_guider(self.rt, Kind::GuiderStart, &out[..2], guider)
+    }
 
-pub fn start(rt: &impl Print, file: &mut File, bytes: &mut [u8]) -> io::Result<()> {
-    let half = signed(word(file));
-    let mut stars = [0i64; 24];
-    let mut guider = [0i64; 24];
-    let s = read_wholes(file, bytes, &mut stars);
-    let g = read_wholes(file, bytes, &mut guider);
-    print_start(rt, half, &stars[0..s], &mut guider[0..g])
-}
-
-fn print_frame(rt: &impl Print, guider: &mut [i64], list: &[i64]) -> io::Result<()> {
-    let mut out = [0i64; 64];
-    guide::mnemathor_guider_frame(guider, list, &mut out);
-    print_call(rt, 21, &out, 2)?;
-    print_numbers(rt, guider, guider.len())?;
-    print_end(rt)
-}
-
-pub fn frame(rt: &impl Print, file: &mut File, bytes: &mut [u8]) -> io::Result<()> {
-    let mut guider = [0i64; 24];
-    let mut list = [0i64; 64];
-    let g = read_wholes(file, bytes, &mut guider);
-    let l = read_wholes(file, bytes, &mut list);
-    print_frame(rt, &mut guider[0..g], &list[0..l])
+    pub fn guider_frame(&mut self) -> io::Result<()> {
+        let mut guider = [0i64; 24];
+        let guider = wholes(&mut self.file, self.bytes, &mut guider);
+        let mut list = [0i64; 64];
+        let list = wholes(&mut self.file, self.bytes, &mut list);
+        let mut out = [0i64; 64];
+        guide::mnemathor_guider_frame(guider, list, &mut out);
+        line_with_guider(self.rt, Kind::GuiderFrame, &out[..2], guider)
+    }
 }

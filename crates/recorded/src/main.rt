@@ -4,7 +4,13 @@
 mod calls;
 mod gimbal;
 mod guiding;
+mod inputs;
+mod kind;
+mod player;
+mod print;
 
+use kind::Kind;
+use player::Player;
 use std::fs::File;
 use std::io;
 
@@ -15,81 +21,86 @@ const CATALOGUE_ROOM: usize = catalogue::RECORD_SIZE * 520;
 const MOST_CASES: u64 = 1000000;
 
 // The next call, of some kind.
-fn run(
-    rt: &impl Print,
-    kind: u64,
-    file: &mut File,
-    bytes: &mut [u8],
-    samples: &mut [u16],
-    stars: &mut [u8],
-    index: &mut [u8],
-    room: &mut [u16],
-) -> io::Result<()> {
+fn run(player: &mut Player<impl Print>, kind: Kind) -> io::Result<()> {
     match kind {
-        1 => calls::verdict(rt, file, bytes, samples),
-        2 => calls::list(rt, file, bytes, samples),
-        3 => calls::direction(rt, file),
-        4 => calls::catalogue(rt, file, stars),
-        5 => calls::ranking(rt, file, bytes, stars, room),
-        6 => calls::search(rt, file, bytes, stars, room),
-        7 => calls::attitude(rt, file, bytes),
-        10 => calls::index(rt, file, stars, index),
-        11 => calls::ranking_by_index(rt, file, bytes, stars, index, room),
-        12 => calls::chain_by_index(rt, file, bytes, samples, stars, index, room),
-        13 => calls::burst(rt, file, bytes, samples, stars, room, index),
-        14 => gimbal::cosines(rt, file, bytes),
-        15 => gimbal::turned(rt, file, bytes),
-        16 => calls::lens(rt, file),
-        17 => calls::compare(rt, file, bytes, stars, index),
-        18 => calls::rival(rt, file, bytes, stars, room),
-        19 => calls::cut(rt, file, stars),
-        20 => guiding::start(rt, file, bytes),
-        21 => guiding::frame(rt, file, bytes),
-        8 => calls::chain(rt, file, bytes, samples, stars, room),
-        _ => calls::reason(rt, file, bytes, samples),
+        Kind::Verdict => player.verdict(),
+        Kind::List => player.list(),
+        Kind::Direction => player.direction(),
+        Kind::Catalogue => player.catalogue(),
+        Kind::Ranking => player.ranking(),
+        Kind::Search => player.search(),
+        Kind::Attitude => player.attitude(),
+        Kind::Chain => player.chain(),
+        Kind::Reason => player.reason(),
+        Kind::Index => player.index(),
+        Kind::RankingByIndex => player.ranking_by_index(),
+        Kind::ChainByIndex => player.chain_by_index(),
+        Kind::Burst => player.burst(),
+        Kind::Cosines => player.cosines(),
+        Kind::Turned => player.turned(),
+        Kind::Lens => player.lens(),
+        Kind::Compare => player.compare(),
+        Kind::Rival => player.rival(),
+        Kind::Cut => player.cut(),
+        Kind::GuiderStart => player.guider_start(),
+        Kind::GuiderFrame => player.guider_frame(),
     }
 }
 
 // Every call up to the one of kind 0, and how many there are.
-fn run_all(
-    rt: &impl Print,
-    file: &mut File,
-    bytes: &mut [u8],
-    samples: &mut [u16],
-    stars: &mut [u8],
-    index: &mut [u8],
-    room: &mut [u16],
-) -> io::Result<u64> {
+fn run_all(player: &mut Player<impl Print>) -> io::Result<u64> {
     for cases in 0..MOST_CASES {
-        let kind = playback::byte(file);
-        if kind == 0 {
+        let number = playback::byte(&mut player.file);
+        if number == 0 {
             return Ok(cases);
         }
-        run(rt, kind, file, bytes, samples, stars, index, room)?;
+        run(player, Kind::from(number))?;
     }
     Ok(MOST_CASES)
 }
 
+// Plays every call, with these rooms lent.
+fn play(
+    rt: &impl Print,
+    file: File,
+    bytes: &mut [u8],
+    samples: &mut [u16],
+    stars: &mut [u8],
+    index: &mut [u8],
+    ranking: &mut [u16],
+) -> io::Result<u64> {
+    let mut player = Player {
+        rt,
+        file,
+        bytes,
+        samples,
+        stars,
+        index,
+        ranking,
+    };
+    run_all(&mut player)
+}
+
 // The largest buffers stand here, once, and are lent.
-fn run_file(rt: &impl Print, file: &mut File) -> io::Result<u64> {
+fn play_file(rt: &impl Print, file: File) -> io::Result<u64> {
     let mut bytes = [0u8; 2100000];
     let mut samples = [0u16; 1050000];
     let mut stars = [0u8; CATALOGUE_ROOM];
     let mut index = [0u8; 1570000];
-    let mut room = [0u16; 4200];
-    run_all(
+    let mut ranking = [0u16; 4200];
+    play(
         rt,
         file,
         &mut bytes,
         &mut samples,
         &mut stars,
         &mut index,
-        &mut room,
+        &mut ranking,
     )
 }
 
 fn main(rt: HostRuntime) -> io::Result<()> {
-    let mut file = File::open(&rt, "cases.bin")?;
-    let cases = run_file(&rt, &mut file)?;
+    let file = File::open(&rt, "cases.bin")?;
+    let cases = play_file(&rt, file)?;
     println!(rt; "cases {cases}")
 }

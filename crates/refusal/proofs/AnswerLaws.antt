@@ -4,11 +4,10 @@ use Rattle.std.proofs.Math.Bool.{true, false, cond}
 use mathlib.Core.List.{List, [], ◌∷◌}
 use Rattle.std.proofs.Common.{sym, ap, ◌∙◌}
 use Rattle.refusal.specs.declared.Refusal.{Refusal}
-use Rattle.refusal.specs.declared.Outcome.{Outcome}
-use Rattle.refusal.specs.declared.Outcome.TheVariants.{Accepted, Refused}
 use Rattle.refusal.specs.Table.{refusal_of, Row, first_applying, answered}
 use Rattle.refusal.specs.Answer.{Answer, refused_with, accepted_with, answer_of}
 use Rattle.refusal.specs.AnswerLaws.{answer_by}
+use Rattle.std.specs.Prelude.{Result, Ok, Err}
 
 -- what a call gives by its rows, put into document 01's terms
 module _
@@ -28,8 +27,8 @@ module _
 
 -- the same of a call whose answer is its outcome alone
 pub outcome-by : (rows : List Row) → answer_of (first_applying rows) ≡ answer_by rows []
-outcome-by rows = ap answer_of (sym (same (first_applying rows))) ∙ answered-by Refused Accepted answer_of [] (λ r. refl) refl rows
+outcome-by rows = ap answer_of (sym (same (first_applying rows))) ∙ answered-by Err (Ok tt) answer_of [] (λ r. refl) refl rows
   where
-    same : (o : Outcome) → answered Refused Accepted o ≡ o
-    same Accepted = refl
-    same (Refused r) = refl
+    same : (o : Result Unit Refusal) → answered Err (Ok tt) o ≡ o
+    same (Ok _) = refl
+    same (Err r) = refl

@@ -6,9 +6,8 @@ use Rattle.std.proofs.Math.Path.{refl, ap}
 use Rattle.std.proofs.Common.{sym, subst, ◌∙◌}
 use Rattle.lists.specs.Contradiction.{contradiction}
 use Rattle.refusal.specs.declared.Refusal.{Refusal}
-use Rattle.refusal.specs.declared.Outcome.{Outcome}
-use Rattle.refusal.specs.declared.Outcome.TheVariants.{Accepted, Refused}
 use Rattle.refusal.specs.Table.{refusal_of, Row, row, row_at, first_applying, answered, otherwise}
+use Rattle.std.specs.Prelude.{Result, Ok, Err}
 
 -- ---- one row at a time, as the code meets them
 
@@ -28,9 +27,9 @@ pub record Given (rows : List Row) (n p : ℕ) : Type 0 where
 
 -- ---- rows behind rows: the first list's refusal, or the second's
 
-pub otherwise-accepted : (a b : Outcome) → otherwise a b ≡ Accepted → (a ≡ Accepted) × (b ≡ Accepted)
-otherwise-accepted Accepted b e = (refl, e)
-otherwise-accepted (Refused r) b e = contradiction (cc)
+pub otherwise-accepted : (a b : Result Unit Refusal) → otherwise a b ≡ Ok tt → (a ≡ Ok tt) × (b ≡ Ok tt)
+otherwise-accepted (Ok _) b e = (refl, e)
+otherwise-accepted (Err r) b e = contradiction (cc)
 
 -- ---- what holds of the number of every row holds of the number given
 

@@ -85,46 +85,31 @@ pub fn numbers_in_order() -> [u32; 23]
     ]
 }
 
+// Stays: a number and no enum. `at`, `text::refused`, `chain::refused` and `c_numbers::of_refusal` take every number, and `given-refused` is a law over
+// all of them.
 #[derive(Clone, Copy)]
 pub struct Refusal {
     pub number: u32,
     pub place: usize,
 }
 
-// What a call comes to before its work: it may go on, or it is refused.
-#[derive(Clone, Copy)]
-pub enum Outcome {
-    Accepted,
-    Refused(Refusal),
-}
-
-// What a call that counts gives: its refusal, or how many there are.
-#[derive(Clone, Copy)]
-pub enum Counted {
-    Refused(Refusal),
-    Count(usize),
-}
-
 // A refusal that names a place.
-pub fn at(number: u32, place: usize) -> Outcome
+pub fn at(number: u32, place: usize) -> Result<(), Refusal>
     ensures { result ≡ refusal_of number place }
 {
-    Outcome::Refused(Refusal { number, place })
+    Err(Refusal { number, place })
 }
 
 // A refusal that names none: its place is 0.
-pub fn plain(number: u32) -> Outcome
+pub fn plain(number: u32) -> Result<(), Refusal>
     ensures { result ≡ refusal_of number 0 }
 {
     at(number, 0)
 }
 
 // The first of two outcomes that is a refusal.
-pub fn otherwise(first: Outcome, second: Outcome) -> Outcome
+pub fn otherwise(first: Result<(), Refusal>, second: Result<(), Refusal>) -> Result<(), Refusal>
     ensures { result ≡ first_refusal first second }
 {
-    match first {
-        Outcome::Accepted => second,
-        Outcome::Refused(_) => first,
-    }
+    first.and(second)
 }

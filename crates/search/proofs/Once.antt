@@ -16,10 +16,10 @@ use Rattle.search_theory.specs.Order.{Ranked}
 use Rattle.search_theory.proofs.Tests as tests
 use Rattle.search_theory.proofs.Tests.{le-or-lt}
 use Rattle.search_theory.proofs.Pigeon.{Into, onto}
-use Rattle.search.specs.declared.RankingTest.TheVariants.{Good, Bad}
 use Rattle.search_fit.specs.Fit.{ranking_of}
 use Rattle.search.specs.Once.{word, clash, clash_at, judged, lent_of}
 use Rattle.search_backtrack.proofs.Rows.{row_fits}
+use Rattle.std.specs.Prelude.{Result, Ok, Err}
 
 -- ---- one word
 
@@ -72,12 +72,12 @@ module _ (words : List ℕ) (stars : ℕ) where
 -- ---- the whole ranking
 
 module _ (words : List ℕ) (dirs stars : ℕ) where
-  pub wrong-length : (length words ≡ dirs * stars → ⊥) → Bad 0 ≡ lent_of words dirs stars
+  pub wrong-length : (length words ≡ dirs * stars → ⊥) → Err 0 ≡ lent_of words dirs stars
   unfolding lent_of
   wrong-length d = rw (ne_eqb (length words) (dirs * stars) d)
 
   pub first-bad : length words ≡ dirs * stars → (i k : ℕ) → i < dirs → ((q : ℕ) → q < i * stars → clash_at words stars q ≡ false)
-      → k ≡ first (clash words stars (i * stars)) stars → k < stars → Bad (i * stars + k) ≡ lent_of words dirs stars
+      → k ≡ first (clash words stars (i * stars)) stars → k < stars → Err (i * stars + k) ≡ lent_of words dirs stars
   unfolding lent_of
   first-bad e i k li h f lk =
       let w = first-is (clash words stars (i * stars)) stars in
@@ -96,7 +96,7 @@ module _ (words : List ℕ) (dirs stars : ℕ) where
       }) in
       rw (eq-eqb (length words) (dirs * stars) e, ← p, lt-ltb (i * stars + k) (dirs * stars) le)
 
-  pub all-good : length words ≡ dirs * stars → ((q : ℕ) → q < dirs * stars → clash_at words stars q ≡ false) → Good ≡ lent_of words dirs stars
+  pub all-good : length words ≡ dirs * stars → ((q : ℕ) → q < dirs * stars → clash_at words stars q ≡ false) → (Ok tt) ≡ lent_of words dirs stars
   unfolding lent_of
   all-good e h =
       let p : dirs * stars ≡ first (clash_at words stars) (dirs * stars) =
@@ -104,23 +104,23 @@ module _ (words : List ℕ) (dirs stars : ℕ) where
       rw (eq-eqb (length words) (dirs * stars) e, ← p, le-ltb (dirs * stars) (dirs * stars) (omega arith))
 
   -- what a good ranking is: it has the length, and no word clashes
-  good_length : lent_of words dirs stars ≡ Good → length words ≡ dirs * stars
+  good_length : lent_of words dirs stars ≡ Ok tt → length words ≡ dirs * stars
   unfolding lent_of
   good_length e = by (eqb (length words) (dirs * stars)) refl e
     where
-      by : (b : Bool) → eqb (length words) (dirs * stars) ≡ b → cond b (judged (dirs * stars) (first (clash_at words stars) (dirs * stars))) (Bad 0) ≡ Good
+      by : (b : Bool) → eqb (length words) (dirs * stars) ≡ b → cond b (judged (dirs * stars) (first (clash_at words stars) (dirs * stars))) (Err 0) ≡ Ok tt
           → length words ≡ dirs * stars
       by true q e = eqb-true (length words) (dirs * stars) q
       by false q e = contradiction (cc)
 
-  good-free : lent_of words dirs stars ≡ Good → (q : ℕ) → q < dirs * stars → clash_at words stars q ≡ false
+  good-free : lent_of words dirs stars ≡ Ok tt → (q : ℕ) → q < dirs * stars → clash_at words stars q ≡ false
   unfolding lent_of
   good-free e = by (ltb (first (clash_at words stars) (dirs * stars)) (dirs * stars)) refl (rw (eq-eqb (length words) (dirs * stars) (good_length e)) at e)
     where
       p : ℕ
       p = first (clash_at words stars) (dirs * stars)
 
-      by : (b : Bool) → ltb p (dirs * stars) ≡ b → cond b (Bad p) Good ≡ Good → (q : ℕ) → q < dirs * stars → clash_at words stars q ≡ false
+      by : (b : Bool) → ltb p (dirs * stars) ≡ b → ◌≡◌ {A = Result Unit ℕ} (cond b (Err p) (Ok tt)) (Ok tt) → (q : ℕ) → q < dirs * stars → clash_at words stars q ≡ false
       by true b e q l = contradiction (cc)
       by false b e q l = (first-is (clash_at words stars) (dirs * stars)).none q (omega (arith, ltb-false p (dirs * stars) b))
 
@@ -138,7 +138,7 @@ module _ (words : List ℕ) (dirs stars : ℕ) where
       free k l = sym (at_row words stars i k l) ∙ h (i * stars + k) (omega (arith, row_fits i dirs stars li))
 
   -- the test accepts a ranking exactly if it is directions x stars long and each row names each star exactly once
-  pub good-ranked : lent_of words dirs stars ≡ Good → (length words ≡ dirs * stars) × Ranked (ranking_of dirs stars words)
+  pub good-ranked : lent_of words dirs stars ≡ Ok tt → (length words ≡ dirs * stars) × Ranked (ranking_of dirs stars words)
   good-ranked e =
       let into = row-into (good-free e) in (
         good_length e,
@@ -149,7 +149,7 @@ module _ (words : List ℕ) (dirs stars : ℕ) where
         },
       )
 
-  pub ranked-good : length words ≡ dirs * stars → Ranked (ranking_of dirs stars words) → lent_of words dirs stars ≡ Good
+  pub ranked-good : length words ≡ dirs * stars → Ranked (ranking_of dirs stars words) → lent_of words dirs stars ≡ Ok tt
   ranked-good e R = sym (all-good e (λ q l.
       let p : 0 < stars = positive q l in
       let i : q / stars < dirs = (div-lt_iff_lt-mul p).1 l in

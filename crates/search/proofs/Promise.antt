@@ -8,8 +8,6 @@ use Prim.Native.Nat.{ℕ, ◌≤◌, ◌<◌}
 use native.Mathlib.Omega.{arith}
 use borrow.Author.Tests.{le-leb}
 use lib.IntN.{ℤ}
-use Rattle.refusal.specs.declared.Outcome.{Outcome}
-use Rattle.refusal.specs.declared.Outcome.TheVariants.{Accepted, Refused}
 use Rattle.refusal.specs.Numbers as number
 use Rattle.refusal.specs.Table.{refusal_of, first_applying}
 use Rattle.camera_direction.specs.List.{list_ok}
@@ -20,22 +18,23 @@ use Rattle.catalogue.specs.CheckLaws.{valid-accepted}
 use Rattle.search_theory.specs.Order.{Same, Before}
 use Rattle.search_theory.proofs.Search.{assigned-below}
 use Rattle.search_theory.proofs.Tests.{le-or-lt}
-use Rattle.search.specs.declared.RankingTest.TheVariants.{Good}
 use Rattle.search.specs.declared.Identification.{Identification}
 use Rattle.search_fit.specs.Fit.{ranking_of, FitsHere}
 use Rattle.search.specs.Once.{lent_of}
 use Rattle.search.specs.Refusals.{demand_ok, rows_beside, refusals_of}
 use Rattle.search.specs.Identified.{refused_with, no_fit, accepted, setup_for, Searched, Identified, identification_of}
 use Rattle.search.specs.Call.{Call}
-use Rattle.search.specs.Answered.{FitsCall, Answered}
+use Rattle.search.specs.Answered.{Answered}
 use Rattle.search.proofs.Answers.{computed-identified}
 use Rattle.search.proofs.Once.{ranked-good}
 use Rattle.search.proofs.Rejected.{too_few, none-applies, catalogue-valid}
+use Rattle.std.specs.Prelude.{Result, Ok, Err}
+use Rattle.refusal.specs.declared.Refusal.{Refusal}
 
 -- the number of a refusal, and 0 where there is none
-abbrev number_in : Outcome → ℕ
-number_in Accepted = 0
-number_in (Refused q) = q.number
+abbrev number_in : Result Unit Refusal → ℕ
+number_in (Ok _) = 0
+number_in (Err q) = q.number
 
 module _ (directions : List ℤ) (bytes : List ℕ) (needed tolerance : ℕ) (words : List ℕ) (v : Call directions bytes needed tolerance words) where
   listed : list_ok directions ≡ true
@@ -45,14 +44,14 @@ module _ (directions : List ℤ) (bytes : List ℕ) (needed tolerance : ℕ) (wo
   unfolding demand_ok
   demanded = rw (le-leb 3 needed v.least, le-leb needed 8 v.most, le-leb tolerance 10000000000000000 v.near)
 
-  once : lent_of words (directions_in directions) (records_in bytes) ≡ Good
+  once : lent_of words (directions_in directions) (records_in bytes) ≡ Ok tt
   once = ranked-good words (directions_in directions) (records_in bytes) v.size v.ranked
 
   beside : first_applying (refusals_of directions bytes needed tolerance words) ≡ first_applying (rows_beside directions (records_in bytes) needed tolerance words)
   beside = catalogue-valid directions bytes needed tolerance words (valid-accepted bytes v.catalogue)
 
   -- with enough directions none of 6 to 12 applies
-  pub none-refuses : needed ≤ directions_in directions → first_applying (refusals_of directions bytes needed tolerance words) ≡ Accepted
+  pub none-refuses : needed ≤ directions_in directions → first_applying (refusals_of directions bytes needed tolerance words) ≡ Ok tt
   none-refuses l = beside ∙ none-applies directions (records_in bytes) needed tolerance words listed demanded once l
 
   -- the assignments that fit
@@ -68,22 +67,22 @@ module _ (directions : List ℤ) (bytes : List ℕ) (needed tolerance : ℕ) (wo
       searched = I.searched (none-refuses enough)
 
       -- an assignment that fits is handed back
-      pub accepted-fits : r.outcome ≡ Accepted → Fit r.stars
+      pub accepted-fits : r.outcome ≡ Ok tt → Fit r.stars
       accepted-fits e = searched.first.fits (ap accepted e)
 
       -- every other that fits comes after it
-      pub accepted-first : r.outcome ≡ Accepted → (ys : List ℕ) → Fit ys
+      pub accepted-first : r.outcome ≡ Ok tt → (ys : List ℕ) → Fit ys
           → Same (directions_in directions) r.stars ys ⊎ Before (ranking_of (directions_in directions) (records_in bytes) words) r.stars ys
       accepted-first e = searched.first.first (ap accepted e)
 
       -- where one fits, one is handed back
-      pub fits-accepted : (ys : List ℕ) → Fit ys → r.outcome ≡ Accepted
-      fits-accepted ys f = ⊎_elim (λ (a : r.outcome ≡ Accepted). a) (λ (b : r ≡ refused_with no_fit).
+      pub fits-accepted : (ys : List ℕ) → Fit ys → r.outcome ≡ Ok tt
+      fits-accepted ys f = ⊎_elim (λ (a : r.outcome ≡ Ok tt). a) (λ (b : r ≡ refused_with no_fit).
           absurd (searched.first.none (ap (λ (i : Identification). accepted i.outcome) b) ys f)) searched.settled
 
       -- 13 exactly where none fits
       pub none-refused : ((ys : List ℕ) → Fit ys → ⊥) → r ≡ refused_with no_fit
-      none-refused n = ⊎_elim (λ (a : r.outcome ≡ Accepted). absurd (n r.stars (accepted-fits a))) (λ (b : r ≡ refused_with no_fit). b) searched.settled
+      none-refused n = ⊎_elim (λ (a : r.outcome ≡ Ok tt). absurd (n r.stars (accepted-fits a))) (λ (b : r ≡ refused_with no_fit). b) searched.settled
 
       pub refused_none : r.outcome ≡ refusal_of number.no_fit 0 → (ys : List ℕ) → Fit ys → ⊥
       refused_none e = searched.first.none (ap accepted e)
@@ -91,7 +90,7 @@ module _ (directions : List ℤ) (bytes : List ℕ) (needed tolerance : ℕ) (wo
       not-few : r.outcome ≡ refusal_of number.few 0 → ⊥
       not-few e =
           ⊎_elim
-          (λ (a : r.outcome ≡ Accepted). omega (arith, ap number_in (sym a ∙ e)))
+          (λ (a : r.outcome ≡ Ok tt). omega (arith, ap number_in (sym a ∙ e)))
           (λ (b : r ≡ refused_with no_fit). omega (arith, ap number_in (sym (ap (λ (i : Identification). i.outcome) b) ∙ e)))
           searched.settled
 
@@ -101,13 +100,13 @@ module _ (directions : List ℤ) (bytes : List ℕ) (needed tolerance : ℕ) (wo
         (le-or-lt needed (directions_in directions))
 
     -- an answer of another number than 12 is given where there are enough
-    enough-for : {o : Outcome} → r.outcome ≡ o → (number_in o ≡ number.few → ⊥) → needed ≤ directions_in directions
+    enough-for : {o : Result Unit Refusal} → r.outcome ≡ o → (number_in o ≡ number.few → ⊥) → needed ≤ directions_in directions
     enough-for {o} e other =
         ⊎_elim (λ (h : needed ≤ directions_in directions). h)
         (λ (h : directions_in directions < needed). absurd (other (ap number_in (sym e) ∙ ap (λ (i : Identification). number_in i.outcome) (few-refused h))))
         (le-or-lt needed (directions_in directions))
 
-    where-accepted : r.outcome ≡ Accepted → needed ≤ directions_in directions
+    where-accepted : r.outcome ≡ Ok tt → needed ≤ directions_in directions
     where-accepted e = enough-for e (λ h. omega arith)
 
     where-none : r.outcome ≡ refusal_of number.no_fit 0 → needed ≤ directions_in directions

@@ -3,13 +3,10 @@ use mathlib.Core.Path.{◌≡◌, refl, sym, ◌∙◌, ap}
 use mathlib.Core.Bool.{true, false}
 use mathlib.Core.List.{List}
 use Prim.Native.Nat.{ℕ, ◌≤◌, ◌<◌}
-use native.Mathlib.Omega.{arith}
 use lib.IntN.{ℤ}
 use borrow.Author.Tests.{lt-ltb, le-ltb, ltb-false, not-false}
 use Rattle.lists.specs.Contradiction.{contradiction}
 use Rattle.refusal.specs.declared.Refusal.{Refusal}
-use Rattle.refusal.specs.declared.Outcome.{Outcome}
-use Rattle.refusal.specs.declared.Outcome.TheVariants.{Accepted, Refused}
 use Rattle.refusal.specs.Numbers as number
 use Rattle.refusal.specs.Table.{Row, refusal_of, first_applying, answered}
 use Rattle.refusal.specs.Laws.{Silent}
@@ -20,22 +17,21 @@ use Rattle.camera_direction.specs.List.{list_ok}
 use Rattle.camera_direction.specs.ListLaws.{directions_in}
 use Rattle.catalogue.specs.Format.{records_in}
 use Rattle.catalogue.specs.Check as catalogue
-use Rattle.search.specs.declared.RankingTest.{RankingTest}
-use Rattle.search.specs.declared.RankingTest.TheVariants.{Good, Bad}
 use Rattle.search_fit.specs.Fit.{ranking_of}
 use Rattle.search.specs.Once.{lent_of}
 use Rattle.search.specs.Refusals.{demand_ok, is_bad, rows_beside, refusals_of}
 use Rattle.search.proofs.Once.{good-ranked}
+use Rattle.std.specs.Prelude.{Result, Ok, Err}
 
-good_of : (j : RankingTest) → is_bad j ≡ false → j ≡ Good
-good_of Good e = refl
-good_of (Bad q) e = tests.never (sym e)
+good_of : (j : Result Unit ℕ) → is_bad j ≡ false → j ≡ Ok tt
+good_of (Ok _) e = refl
+good_of (Err q) e = tests.never (sym e)
 
 -- none of 8, 9, 11 and 12 applies
 pub record Asked (directions : List ℤ) (stars needed tolerance : ℕ) (words : List ℕ) : Type 0 where
   pub list : list_ok directions ≡ true
   pub demand : demand_ok needed tolerance ≡ true
-  pub good : lent_of words (directions_in directions) stars ≡ Good
+  pub good : lent_of words (directions_in directions) stars ≡ Ok tt
   pub enough : needed ≤ directions_in directions
 
 module _ (directions : List ℤ) (stars needed tolerance : ℕ) (words : List ℕ) where
@@ -50,21 +46,21 @@ module _ (directions : List ℤ) (stars needed tolerance : ℕ) (words : List �
     not-in-range e = rw (listed, e)
 
     module _ (demand : demand_ok needed tolerance ≡ true) where
-      pub not-once : (q : ℕ) → lent_of words (directions_in directions) stars ≡ Bad q → first_applying (rows_beside directions stars needed tolerance words)
+      pub not-once : (q : ℕ) → lent_of words (directions_in directions) stars ≡ Err q → first_applying (rows_beside directions stars needed tolerance words)
           ≡ refusal_of number.ranking q
       unfolding rows_beside first_applying
       not-once q e = rw (listed, demand, e)
 
-      module _ (good : lent_of words (directions_in directions) stars ≡ Good) where
+      module _ (good : lent_of words (directions_in directions) stars ≡ Ok tt) where
         pub too_few : directions_in directions < needed → first_applying (rows_beside directions stars needed tolerance words) ≡ refusal_of number.few 0
         unfolding rows_beside first_applying
         too_few l = rw (listed, demand, good, lt-ltb (directions_in directions) needed l)
 
-        pub none-applies : needed ≤ directions_in directions → first_applying (rows_beside directions stars needed tolerance words) ≡ Accepted
+        pub none-applies : needed ≤ directions_in directions → first_applying (rows_beside directions stars needed tolerance words) ≡ Ok tt
         unfolding rows_beside first_applying
         none-applies l = rw (listed, demand, good, le-ltb (directions_in directions) needed l)
 
-  pub beside-asked : first_applying (rows_beside directions stars needed tolerance words) ≡ Accepted → Asked directions stars needed tolerance words
+  pub beside-asked : first_applying (rows_beside directions stars needed tolerance words) ≡ Ok tt → Asked directions stars needed tolerance words
   unfolding rows_beside Silent
   beside-asked e =
       let s = accepted-silent (rows_beside directions stars needed tolerance words) e in
@@ -76,20 +72,20 @@ module _ (directions : List ℤ) (stars needed tolerance : ℕ) (words : List �
       }
 
 module _ (directions : List ℤ) (bytes : List ℕ) (needed tolerance : ℕ) (words : List ℕ) where
-  pub catalogue-refused : (r : Refusal) → first_applying (catalogue.refusals_of bytes) ≡ Refused r
-      → first_applying (refusals_of directions bytes needed tolerance words) ≡ Refused r
+  pub catalogue-refused : (r : Refusal) → first_applying (catalogue.refusals_of bytes) ≡ Err r
+      → first_applying (refusals_of directions bytes needed tolerance words) ≡ Err r
   unfolding refusals_of
   catalogue-refused r e = applying-append (catalogue.refusals_of bytes) _
-      ∙ ap (answered Refused (first_applying (rows_beside directions (records_in bytes) needed tolerance words))) e
+      ∙ ap (answered Err (first_applying (rows_beside directions (records_in bytes) needed tolerance words))) e
 
-  pub catalogue-valid : first_applying (catalogue.refusals_of bytes) ≡ Accepted → first_applying (refusals_of directions bytes needed tolerance words)
+  pub catalogue-valid : first_applying (catalogue.refusals_of bytes) ≡ Ok tt → first_applying (refusals_of directions bytes needed tolerance words)
       ≡ first_applying (rows_beside directions (records_in bytes) needed tolerance words)
   unfolding refusals_of
   catalogue-valid e = applying-append (catalogue.refusals_of bytes) _ ∙ ap
-      (answered Refused (first_applying (rows_beside directions (records_in bytes) needed tolerance words))) e
+      (answered Err (first_applying (rows_beside directions (records_in bytes) needed tolerance words))) e
 
   -- none of 6 to 12 applies: neither the catalogue's nor the rest
-  pub all-accepted : first_applying (refusals_of directions bytes needed tolerance words) ≡ Accepted → (first_applying (catalogue.refusals_of bytes) ≡ Accepted)
+  pub all-accepted : first_applying (refusals_of directions bytes needed tolerance words) ≡ Ok tt → (first_applying (catalogue.refusals_of bytes) ≡ Ok tt)
       × Asked directions (records_in bytes) needed tolerance words
   unfolding refusals_of
   all-accepted e = by (first_applying (catalogue.refusals_of bytes)) refl (sym (applying-append (catalogue.refusals_of bytes) rest) ∙ e)
@@ -97,11 +93,11 @@ module _ (directions : List ℤ) (bytes : List ℕ) (needed tolerance : ℕ) (wo
       rest : List Row
       rest = rows_beside directions (records_in bytes) needed tolerance words
 
-      by : (o : Outcome) → first_applying (catalogue.refusals_of bytes) ≡ o → answered Refused (first_applying rest) o ≡ Accepted
-          → (first_applying (catalogue.refusals_of bytes) ≡ Accepted) × Asked directions (records_in bytes) needed tolerance words
-      by Accepted q h = (q, beside-asked directions (records_in bytes) needed tolerance words h)
-      by (Refused r) q h = contradiction (cc)
+      by : (o : Result Unit Refusal) → first_applying (catalogue.refusals_of bytes) ≡ o → answered Err (first_applying rest) o ≡ Ok tt
+          → (first_applying (catalogue.refusals_of bytes) ≡ Ok tt) × Asked directions (records_in bytes) needed tolerance words
+      by (Ok _) q h = (q, beside-asked directions (records_in bytes) needed tolerance words h)
+      by (Err r) q h = contradiction (cc)
 
-  pub accepted-ranked : first_applying (refusals_of directions bytes needed tolerance words) ≡ Accepted
+  pub accepted-ranked : first_applying (refusals_of directions bytes needed tolerance words) ≡ Ok tt
       → Ranked (ranking_of (directions_in directions) (records_in bytes) words)
   accepted-ranked e = (good-ranked words (directions_in directions) (records_in bytes) (all-accepted e).1.good).1

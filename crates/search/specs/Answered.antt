@@ -1,7 +1,6 @@
 -- What a caller of the search is told, in the caller's words: on a valid call an assignment, 12 or 13, and nothing else. Assumes nothing.
 use Rattle.std.specs.Prelude.{◌≡◌, List, ◌⊎◌, ℕ, ◌≤◌, ◌<◌, ℤ, length}
 use Rattle.refusal.specs.declared.Refusal.{Refusal}
-use Rattle.refusal.specs.declared.Outcome.TheVariants.{Accepted}
 use Rattle.refusal.specs.Numbers as number
 use Rattle.refusal.specs.Table.{refusal_of}
 use Rattle.camera_direction.specs.ListLaws.{directions_in}
@@ -11,6 +10,7 @@ use Rattle.search_theory.specs.Order.{Same, Before, at}
 use Rattle.search_fit.specs.Fit.{ranking_of, FitsHere}
 use Rattle.search.specs.declared.Identification.{Identification}
 use Rattle.search.specs.Identified.{refused_with, no_fit, setup_for}
+use Rattle.std.specs.Prelude.{Ok}
 
 -- the assignment fits the directions and the catalogue's stars
 abbrev pub FitsCall : List ℤ → List ℕ → ℕ → ℕ → List ℕ → Type 0
@@ -27,12 +27,12 @@ too_few = record { number = number.few; place = 0 }
 -- accepted exactly where an assignment fits, with one that does and that no other that does comes before; 12 exactly where there are fewer directions
 -- than needed; 13 exactly where there are enough and none fits. There are eight words, 0 behind the directions
 pub record Answered (directions : List ℤ) (bytes : List ℕ) (needed tolerance : ℕ) (words : List ℕ) (r : Identification) : Type 0 where
-  pub one_of_three : (r.outcome ≡ Accepted) ⊎ ((r ≡ refused_with too_few) ⊎ (r ≡ refused_with no_fit))
-  pub fits : r.outcome ≡ Accepted → FitsCall directions bytes needed tolerance r.stars
-  pub first : r.outcome ≡ Accepted → (ys : List ℕ) → FitsCall directions bytes needed tolerance ys → NotAfter directions bytes words r.stars ys
-  pub accepts : (ys : List ℕ) → FitsCall directions bytes needed tolerance ys → r.outcome ≡ Accepted
-  pub rest : r.outcome ≡ Accepted → (k : ℕ) → directions_in directions ≤ k → at r.stars k ≡ 0
-  pub size : r.outcome ≡ Accepted → length r.stars ≡ 8
+  pub one_of_three : (r.outcome ≡ Ok tt) ⊎ ((r ≡ refused_with too_few) ⊎ (r ≡ refused_with no_fit))
+  pub fits : r.outcome ≡ Ok tt → FitsCall directions bytes needed tolerance r.stars
+  pub first : r.outcome ≡ Ok tt → (ys : List ℕ) → FitsCall directions bytes needed tolerance ys → NotAfter directions bytes words r.stars ys
+  pub accepts : (ys : List ℕ) → FitsCall directions bytes needed tolerance ys → r.outcome ≡ Ok tt
+  pub rest : r.outcome ≡ Ok tt → (k : ℕ) → directions_in directions ≤ k → at r.stars k ≡ 0
+  pub size : r.outcome ≡ Ok tt → length r.stars ≡ 8
   pub few : directions_in directions < needed → r ≡ refused_with too_few
   pub only-few : r.outcome ≡ refusal_of number.few 0 → directions_in directions < needed
   pub none : needed ≤ directions_in directions → ((ys : List ℕ) → FitsCall directions bytes needed tolerance ys → ⊥) → r ≡ refused_with no_fit

@@ -3,8 +3,7 @@
 use Rattle.std.specs.Prelude.{Bool, cond, ◌||◌, List, ℕ, ◌+◌, ◌*◌, ◌/◌, ◌%◌, get_or, length, leb, ltb, eqb}
 use Rattle.lists.specs.Tests.{some}
 use Rattle.lists.specs.First.{first}
-use Rattle.search.specs.declared.RankingTest.{RankingTest}
-use Rattle.search.specs.declared.RankingTest.TheVariants.{Good, Bad}
+use Rattle.std.specs.Prelude.{Result, Ok, Err}
 
 -- the word at place k of the row that starts at base
 abbrev pub word : List ℕ → ℕ → ℕ → ℕ
@@ -18,8 +17,8 @@ clash words stars base k = leb stars (word words base k) || some k (λ l. eqb (w
 abbrev pub clash_at : List ℕ → ℕ → ℕ → Bool
 clash_at words stars q = clash words stars (q / stars * stars) (q % stars)
 
-abbrev pub judged : ℕ → ℕ → RankingTest
-judged size q = cond (ltb q size) (Bad q) Good
+abbrev pub judged : ℕ → ℕ → Result Unit ℕ
+judged size q = cond (ltb q size) (Err q) (Ok tt)
 
-unfoldable pub lent_of : List ℕ → ℕ → ℕ → RankingTest
-lent_of words dirs stars = cond (eqb (length words) (dirs * stars)) (judged (dirs * stars) (first (clash_at words stars) (dirs * stars))) (Bad 0)
+unfoldable pub lent_of : List ℕ → ℕ → ℕ → Result Unit ℕ
+lent_of words dirs stars = cond (eqb (length words) (dirs * stars)) (judged (dirs * stars) (first (clash_at words stars) (dirs * stars))) (Err 0)

@@ -6,21 +6,20 @@ use Rattle.camera_direction.specs.List.{list_ok}
 use Rattle.camera_direction.specs.ListLaws.{directions_in}
 use Rattle.catalogue.specs.Format.{records_in}
 use Rattle.catalogue.specs.Check as catalogue
-use Rattle.search.specs.declared.RankingTest.{RankingTest}
-use Rattle.search.specs.declared.RankingTest.TheVariants.{Good, Bad}
 use Rattle.search.specs.Once.{lent_of}
+use Rattle.std.specs.Prelude.{Result, Ok, Err}
 
 -- the needed count is 3 to 8, and the tolerance 0 to 10^16
 unfoldable pub demand_ok : ℕ → ℕ → Bool
 demand_ok needed tolerance = leb 3 needed && leb needed 8 && leb tolerance 10000000000000000
 
-abbrev pub is_bad : RankingTest → Bool
-is_bad Good = false
-is_bad (Bad q) = true
+abbrev pub is_bad : Result Unit ℕ → Bool
+is_bad (Ok _) = false
+is_bad (Err q) = true
 
-abbrev pub place_of : RankingTest → ℕ
-place_of Good = 0
-place_of (Bad q) = q
+abbrev pub place_of : Result Unit ℕ → ℕ
+place_of (Ok _) = 0
+place_of (Err q) = q
 
 -- 8, 9, 11 and 12, beside a catalogue of so many stars
 unfoldable pub rows_beside : List ℤ → ℕ → ℕ → ℕ → List ℕ → List Row

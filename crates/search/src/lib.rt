@@ -11,20 +11,13 @@ ghost use Rattle.search_backtrack.specs.Input.{Input};
 ghost use Rattle.search.specs.First.{FirstFit};
 ghost use Rattle.search.specs.Identified.{identification_by, Identified, identification_of};
 
-use refusal::Outcome;
-use search_backtrack::{Answer, Sought};
-
-// Whether a ranking that is handed in names each star once a row, or the place of its first word that does not belong.
-#[derive(Clone, Copy)]
-pub enum RankingTest {
-    Good,
-    Bad(usize),
-}
+use refusal::Refusal;
 
 // What the search answers: whether the call is accepted, and the words of the assignment, 0 behind the directions and where it is refused.
+// Stays: the outcome beside the words and no Result of them. `Identified` and `one_of_three` of `Answered` say that they are zeros on a refusal.
 #[derive(Clone, Copy)]
 pub struct Identification {
-    pub outcome: Outcome,
+    pub outcome: Result<(), Refusal>,
     pub stars: [u16; 8],
 }
 
@@ -35,40 +28,34 @@ pub fn demand_ok(needed: usize, tolerance: u64) -> bool
     refused::demand_ok(needed, tolerance)
 }
 
-// The first assignment that fits, or that none does. The stars stand in threes, as the directions do.
+// The words of the first assignment that fits, if one does. The stars stand in threes, as the directions do.
 fn first_fit(
     ranking: &[u16],
     directions: &[i32],
     stars: &[i32],
     needed: usize,
     tolerance: u64,
-) -> Answer
+) -> Option<[u16; 8]>
     requires { Input (setup_of directions.now stars.now needed tolerance) ranking.now directions.now stars.now }
     ensures { FirstFit (setup_of directions.now stars.now needed tolerance) ranking.now directions.now
         stars.now result }
 {
-    let all = Sought {
-        rival: false,
-        ours: [0u16; 8],
-    };
-    search_backtrack::first(ranking, directions, stars, needed, tolerance, all)
+    search_backtrack::first(ranking, directions, stars, needed, tolerance, None)
 }
 
 // The words of an assignment that was found, or refusal 13.
-fn settled(answer: Answer) -> Identification
+fn settled(answer: Option<[u16; 8]>) -> Identification
     ensures { result ≡ identification_by answer }
 {
-    let words = answer.stars;
-    if answer.found {
-        Identification {
-            outcome: Outcome::Accepted,
-            stars: words,
-        }
-    } else {
-        Identification {
+    match answer {
+        Some(stars) => Identification {
+            outcome: Ok(()),
+            stars: stars,
+        },
+        None => Identification {
             outcome: refusal::plain(refusal::NO_FIT),
             stars: [0u16; 8],
-        }
+        },
     }
 }
 
@@ -85,16 +72,14 @@ pub fn search(
         × (result ≡ identification_of directions.now catalogue.now needed tolerance ranking.now) }
 {
     let outcome = refused::first_refusal(directions, catalogue, needed, tolerance, ranking);
-    match outcome {
-        Outcome::Refused(r) => Identification {
-            outcome: Outcome::Refused(r),
+    if let Err(r) = outcome {
+        return Identification {
+            outcome: Err(r),
             stars: [0u16; 8],
-        },
-        Outcome::Accepted => {
-            let numbers = catalogue::stars(catalogue);
-            let end = 3 * catalogue::records(catalogue);
-            let answer = first_fit(ranking, directions, &numbers[..end], needed, tolerance);
-            settled(answer)
-        }
+        };
     }
+    let numbers = catalogue::stars(catalogue);
+    let end = 3 * catalogue::records(catalogue);
+    let answer = first_fit(ranking, directions, &numbers[..end], needed, tolerance);
+    settled(answer)
 }

@@ -3,31 +3,26 @@ ghost use Rattle.std.specs.Prelude.{◌≡◌, ◌≤◌};
 ghost use Rattle.refusal.specs.Table.{first_applying};
 ghost use Rattle.search.specs.Refusals.{demand_ok, rows_beside, refusals_of};
 
-use crate::{RankingTest, lent};
-use refusal::{Counted, Outcome};
+use crate::lent;
+use refusal::Refusal;
 
 // Whether the needed count and the tolerance are in range.
 #[tactic(auto, unfolding(crate::specs::Refusals::demand_ok))]
 pub(crate) fn demand_ok(needed: usize, tolerance: u64) -> bool
     ensures { result ≡ demand_ok needed tolerance }
 {
-    if needed < 3 {
-        return false;
-    }
-    if 8 < needed {
-        return false;
-    }
-    tolerance <= 10000000000000000
+    3 <= needed && needed <= 8 && tolerance <= 10000000000000000
 }
 
-// The first of 8, 9, 11 and 12, beside a catalogue of so many stars.
+// The first of 8, 9, 11 and 12 that applies, beside a catalogue of so many stars.
+#[tactic(auto, unfolding(crate::specs::Refusals::rows_beside, refusal::specs::Table::first_applying))]
 fn beside(
     directions: &[i32],
     stars: usize,
     needed: usize,
     tolerance: u64,
     ranking: &[u16],
-) -> Outcome
+) -> Result<(), Refusal>
     requires { stars ≤ 512 }
     ensures { result ≡ first_applying (rows_beside directions.now stars needed tolerance ranking.now) }
 {
@@ -38,16 +33,13 @@ fn beside(
         return refusal::plain(refusal::DEMAND);
     }
     let dirs = directions.len() / 3;
-    let judgement = lent::check(ranking, dirs, stars);
-    match judgement {
-        RankingTest::Bad(place) => refusal::at(refusal::RANKING, place),
-        RankingTest::Good => {
-            if dirs < needed {
-                return refusal::plain(refusal::FEW);
-            }
-            Outcome::Accepted
-        }
+    if let Err(place) = lent::check(ranking, dirs, stars) {
+        return refusal::at(refusal::RANKING, place);
     }
+    if dirs < needed {
+        return refusal::plain(refusal::FEW);
+    }
+    Ok(())
 }
 
 // The first of 6 to 12 that applies.
@@ -57,12 +49,9 @@ pub(crate) fn first_refusal(
     needed: usize,
     tolerance: u64,
     ranking: &[u16],
-) -> Outcome
+) -> Result<(), Refusal>
     ensures { result ≡ first_applying (refusals_of directions.now catalogue.now needed tolerance ranking.now) }
 {
-    let checked = catalogue::check(catalogue);
-    match checked {
-        Counted::Refused(r) => Outcome::Refused(r),
-        Counted::Count(stars) => beside(directions, stars, needed, tolerance, ranking),
-    }
+    let stars = catalogue::check(catalogue)?;
+    beside(directions, stars, needed, tolerance, ranking)
 }

@@ -1,6 +1,6 @@
 -- The test beside the newest star and the words before it is the test beside all words: those behind it are no stars. Assumes nothing.
-use Rattle.std.proofs.Common.{◌≡◌, ℕ, zero, suc, ◌<◌, ◌≤◌, Bool, true, false, not, ◌&&◌, eqb, ltb, List, get_or, ℤ, pos, ◌-ℤ◌, sym, ap, ◌∙◌, subst, ⊎_elim, eq-or-lt_of_le, arith, le-ltb, lt-ltb, eq-eqb, ne_eqb}
-use mathlib.Core.Bool.{and-true, and-false}
+use Rattle.std.proofs.Common.{◌≡◌, ℕ, zero, suc, ◌<◌, ◌≤◌, Bool, true, not, ◌&&◌, eqb, ltb, List, get_or, ℤ, pos, ◌-ℤ◌, sym, ap, ◌∙◌, subst, ⊎_elim, eq-or-lt_of_le, arith, le-ltb, lt-ltb, ne_eqb}
+use mathlib.Core.Bool.{and-true}
 use Rattle.numbers.specs.Within.{Within, wider, within-sub}
 use Rattle.vectors.specs.Vectors.{Within3, dot_of}
 use Rattle.vectors.specs.Agree.{agreeing, near-agreeing}
@@ -82,20 +82,3 @@ module _ (stars : List ℤ) (count : ℕ) (chosen : List ℕ) (dots : List ℤ) 
             (not (ne_eqb n.star star d k) && near-agreeing n.dot (dot_of n.place (triple_at stars star)) tolerance (omega (arith, w.within)) k))
             ∙ and-true (besides stars count tolerance dots 0 chosen star) ∙ none-behind tolerance star 0 i (omega arith) (λ q l z. none q l);
       }
-
-  -- ---- how the test goes
-
-  module _ (tolerance : ℕ) (n : Newest) (star : ℕ) where
-    pub itself : n.star ≡ star → false ≡ besides_newest stars count tolerance dots chosen n star
-    unfolding besides_newest
-    itself e = rw (eq-eqb n.star star e) (sym (and-false (besides stars count tolerance dots n.before chosen star)))
-
-    pub disagrees : agreeing n.dot (dot_of n.place (triple_at stars star)) tolerance ≡ false
-        → false ≡ besides_newest stars count tolerance dots chosen n star
-    unfolding besides_newest
-    disagrees e = rw (e, and-false (not (eqb n.star star))) (sym (and-false (besides stars count tolerance dots n.before chosen star)))
-
-    pub goes_on : (n.star ≡ star → ⊥) → agreeing n.dot (dot_of n.place (triple_at stars star)) tolerance ≡ true
-        → besides stars count tolerance dots n.before chosen star ≡ besides_newest stars count tolerance dots chosen n star
-    unfolding besides_newest
-    goes_on d e = rw (ne_eqb n.star star d, e) (sym (and-true (besides stars count tolerance dots n.before chosen star)))

@@ -1,8 +1,7 @@
 -- What agrees with a dot product lies in a span around it. Assumes nothing.
-use Rattle.std.proofs.Common.{◌≡◌, ℕ, zero, suc, ◌+◌, ◌-◌, ◌*◌, ◌%◌, ◌<◌, ◌≤◌, false, T, ltb, leb, ℤ, pos, negsuc, ◌+ℤ◌, ◌-ℤ◌, nat_abs, sym, ◌∙◌, arith, le-ltb, le-leb}
+use Rattle.std.proofs.Common.{◌≡◌, ℕ, zero, suc, ◌+◌, ◌-◌, ◌*◌, ◌%◌, ◌<◌, ◌≤◌, leb, ℤ, pos, negsuc, ◌+ℤ◌, ◌-ℤ◌, nat_abs, sym, ◌∙◌, arith, le-leb}
 use native.Mathlib.Decide.{dec_le}
 use borrow.Author.Tests.{lt-leb}
-use lib.Signed.{non_neg}
 use Rattle.numbers.specs.Abs.{abs-sub}
 use Rattle.numbers.specs.Within.{Within}
 use Rattle.vectors.specs.Agree.{agreeing}
@@ -14,13 +13,6 @@ raised-within {z = pos n} h = (omega (arith, h.within), omega (arith, h.within))
 raised-within {z = negsuc n} h = (omega (arith, h.within), omega (arith, h.within))
 
 -- the sum is not negative
-pub raised-up : (z : ℤ) → Within 3000000000000000000 z → T (non_neg (z +ℤ pos 4000000000000000000))
-raised-up (pos n) h = tt
-raised-up (negsuc n) h = rw (lt-ltb-no n h.within) tt
-  where
-    lt-ltb-no : (n : ℕ) → suc n ≤ 3000000000000000000 → ltb 4000000000000000000 (suc n) ≡ false
-    lt-ltb-no n l = le-ltb 4000000000000000000 (suc n) (omega arith)
-
 pub raised_is : (z : ℤ) → Within 3000000000000000000 z → nat_abs (z +ℤ pos 4000000000000000000) ≡ raised z
 unfolding raised
 raised_is (pos n) h = omega arith

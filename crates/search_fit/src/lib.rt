@@ -1,15 +1,19 @@
 // The rule of fit: whether a star may stand at a direction beside the words before it. Another rule changes this crate.
 #![tactic(auto)]
 
+pub mod look;
 pub mod mirror;
+pub mod scene;
 pub mod span;
 
-ghost use Rattle.std.specs.Prelude.{◌≡◌, ◌+◌, ◌*◌, ◌<◌, ◌≤◌, ◌&&◌, length};
-ghost use Rattle.numbers.specs.Within.{Within};
+ghost use Rattle.std.specs.Prelude.{◌≡◌, ◌+◌, ◌*◌, ◌<◌, ◌≤◌, ◌&&◌, length, pos, slice_index_or};
 ghost use Rattle.vectors.specs.Triples.{AllWithin, pair_dot};
 ghost use Rattle.vectors.specs.Agree.{agreeing};
-ghost use Rattle.search_fit.specs.Fit.{Measured, Tested, NewestOf, Ready, Seen, besides, besides_newest, upright};
+ghost use Rattle.search_fit.specs.Fit.{Measured, Tested, NewestOf, Seen, besides, besides_newest, upright};
+ghost use Rattle.search_fit.specs.Look.{LooksBeside};
 
+use crate::look::Look;
+use crate::scene::Scene;
 use vectors::Vec3;
 
 // How many directions and stars there are, how many directions need a star, and how far apart two dot products may be.
@@ -21,8 +25,7 @@ pub struct Setup {
     pub tolerance: u64,
 }
 
-// The newest star of the words chosen, with its place in the sky, the dot product of its direction, and the number of words before it. Most
-// stars that may not stand fail beside it, so that it is read once for a look along all stars.
+// The newest star of the words chosen, with its place in the sky, the dot product of its direction, and the number of words before it.
 #[derive(Clone, Copy)]
 pub struct Newest {
     pub before: usize,
@@ -44,48 +47,33 @@ pub fn measured(directions: &[i32], i: usize, n: usize) -> [i64; 8]
     ensures { Measured directions.now i n result }
 {
     let mut dots = [0i64; 8];
-    let mut j = 0;
-    while j < n {
+    for j in 0..n {
         dots[j] = vectors::pair_dot(directions, j, i);
-        j += 1;
     }
     dots
 }
 
-// Whether a dot product of two directions agrees with that of the stars a and b.
-fn agrees(dot: i64, stars: &[i32], tolerance: u64, a: usize, b: usize) -> bool
-    requires within { Within 3000000000000000000 dot }
-    requires a_in_bounds { (3 * a + 3 ≤ length stars.now) × (3 * b + 3 ≤ length stars.now) }
-    requires all_within { AllWithin 1000000000 stars.now }
-    ensures { result ≡ agreeing dot (pair_dot stars.now a b) tolerance }
+// Whether the dot product of the direction and the one at place j agrees with that of the stars a and b.
+fn agrees(look: &Look, j: usize, a: usize, b: usize) -> bool
+    requires j_in_bounds { j < length look.now.dots.now }
+    requires a_in_bounds { (a < look.now.count) × (b < look.now.count) }
+    ensures { let l = look.now in result ≡ agreeing (slice_index_or l.dots.now j (pos 0)) (pair_dot l.stars.now a b) l.tolerance }
 {
-    vectors::agree(dot, vectors::pair_dot(stars, a, b), tolerance)
+    let product = vectors::pair_dot(look.stars, a, b);
+    vectors::agree(look.dots[j], product, look.tolerance)
 }
 
 // Whether the star may stand beside the first i words chosen, the newest first: none of them is this star, and each star among them agrees.
-fn stands_beside(
-    stars: &[i32],
-    count: usize,
-    tolerance: u64,
-    chosen: &[u16],
-    dots: &[i64],
-    i: usize,
-    star: usize,
-) -> bool
-    requires tested { Tested stars.now count chosen.now dots.now i }
-    requires star_lt_count { star < count }
-    ensures { result ≡ besides stars.now count tolerance dots.now i chosen.now star }
+fn stands_beside(look: &Look, i: usize, star: usize) -> bool
+    requires i_le_before { i ≤ look.now.newest.before }
+    requires star_lt_count { star < look.now.count }
+    ensures { let l = look.now in result ≡ besides l.stars.now l.count l.tolerance l.dots.now i l.chosen.now star }
 {
-    let mut j = i;
-    while 0 < j {
-        j -= 1;
-        let other = index(chosen[j]);
-        if other < count {
+    for j in (0..i).rev() {
+        let other = index(look.chosen[j]);
+        if other < look.count {
             let is_taken = other == star;
-            if is_taken {
-                return false;
-            }
-            if !agrees(dots[j], stars, tolerance, other, star) {
+            if is_taken || !agrees(look, j, other, star) {
                 return false;
             }
         }
@@ -98,9 +86,7 @@ pub fn newest_of(stars: &[i32], count: usize, chosen: &[u16], dots: &[i64], i: u
     requires { Tested stars.now count chosen.now dots.now i }
     ensures { NewestOf stars.now count chosen.now dots.now i result }
 {
-    let mut k = i;
-    while 0 < k {
-        k -= 1;
+    for k in (0..i).rev() {
         let star = index(chosen[k]);
         if star < count {
             return Newest {
@@ -119,52 +105,47 @@ pub fn newest_of(stars: &[i32], count: usize, chosen: &[u16], dots: &[i64], i: u
     }
 }
 
-// Whether the star may stand beside the newest star and the words before it.
-pub fn passes(
-    stars: &[i32],
-    count: usize,
-    tolerance: u64,
-    chosen: &[u16],
-    dots: &[i64],
-    newest: Newest,
-    star: usize,
-) -> bool
-    requires ready { Ready stars.now count chosen.now dots.now newest }
-    requires star_lt_count { star < count }
-    ensures { result ≡ besides_newest stars.now count tolerance dots.now chosen.now newest star }
+// A look along the stars beside the first i words chosen, by a direction's dot products with the directions before it.
+pub fn look_beside<'a>(
+    scene: Scene<'_, 'a>,
+    chosen: &'a [u16; 8],
+    dots: &'a [i64; 8],
+    i: usize,
+) -> Look<'a>
+    requires { (i ≤ 8) × AllWithin 3000000000000000000 dots.now }
+    ensures { LooksBeside scene.entry.setup scene.entry.stars.now chosen.now dots.now i result }
 {
-    let place = newest.place;
-    let dot = newest.dot;
-    let is_taken = newest.star == star;
-    if is_taken {
-        return false;
+    let stars = scene.stars;
+    let count = scene.setup.stars;
+    Look {
+        stars,
+        count,
+        tolerance: scene.setup.tolerance,
+        chosen,
+        dots,
+        newest: newest_of(stars, count, chosen, dots, i),
     }
-    if !span::agrees_with(dot, place, stars, tolerance, star) {
-        return false;
-    }
-    stands_beside(stars, count, tolerance, chosen, dots, newest.before, star)
 }
 
-// Whether the star may stand there by both rules, over every two and every three. The threes are asked only of a star that agrees.
-pub fn may_stand(
-    stars: &[i32],
-    count: usize,
-    tolerance: u64,
-    chosen: &[u16],
-    dots: &[i64],
-    newest: Newest,
-    turns: &[i64],
-    i: usize,
-    star: usize,
-) -> bool
-    requires ready { Ready stars.now count chosen.now dots.now newest }
-    requires seen { Seen stars.now count chosen.now turns.now i }
-    requires star_lt_count { star < count }
-    ensures { result ≡ (besides_newest stars.now count tolerance dots.now chosen.now newest star && upright
-        stars.now count turns.now i chosen.now star) }
+// Whether the star may stand beside the newest star and the words before it.
+#[tactic(auto, unfolding(crate::specs::Fit::besides_newest))]
+pub fn passes(look: &Look, star: usize) -> bool
+    requires { star < look.now.count }
+    ensures { let l = look.now in result ≡ besides_newest l.stars.now l.count l.tolerance l.dots.now l.chosen.now l.newest star }
 {
-    if !passes(stars, count, tolerance, chosen, dots, newest, star) {
-        return false;
-    }
-    mirror::is_upright(stars, count, chosen, turns, i, star)
+    let newest = look.newest;
+    newest.star != star
+        && span::agrees_with(newest.dot, newest.place, look.stars, look.tolerance, star)
+        && stands_beside(look, newest.before, star)
+}
+
+// Whether the star may stand there by both rules, over every two and every three, by the direction's triple products with each two of the first i. The
+// threes are asked only of a star that agrees.
+pub fn may_stand(look: &Look, turns: &[i64], i: usize, star: usize) -> bool
+    requires seen { let l = look.now in Seen l.stars.now l.count l.chosen.now turns.now i }
+    requires star_lt_count { star < look.now.count }
+    ensures { let l = look.now in result ≡ (besides_newest l.stars.now l.count l.tolerance l.dots.now l.chosen.now l.newest star && upright
+        l.stars.now l.count turns.now i l.chosen.now star) }
+{
+    passes(look, star) && mirror::is_upright(look, turns, i, star)
 }

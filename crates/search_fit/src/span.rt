@@ -11,6 +11,7 @@ ghost use Rattle.search_fit.specs.Span.{raised as raised_of};
 use vectors::Vec3;
 
 // A dot product moved up, so that it has no sign.
+#[tactic(auto, using(crate::proofs::SpanLaws::raised_is))]
 fn raised(p: i64) -> u64
     requires { Within 3000000000000000000 p }
     ensures { result ≡ raised_of p }

@@ -6,7 +6,6 @@ use mathlib.Core.Logic.{◌⊎◌, ⊎_elim}
 use Prim.Native.Nat.{ℕ}
 use lib.IntN.{ℤ}
 use Rattle.refusal.specs.declared.Refusal.{Refusal}
-use Rattle.refusal.specs.declared.Outcome.TheVariants.{Accepted, Refused}
 use Rattle.camera_direction.specs.ListLaws.{directions_in}
 use Rattle.catalogue.specs.Format.{records_in}
 use Rattle.catalogue.specs.Stars.{stars_of}
@@ -21,6 +20,7 @@ use Rattle.search.proofs.Answers.{identified}
 use Rattle.search_rival.specs.declared.Contest.{Contest}
 use Rattle.search_rival.specs.Contested.{RivalHere, refused_with, alone, Judged, Contested}
 use Rattle.search_rival.proofs.Answers.{none-refuses}
+use Rattle.std.specs.Prelude.{Ok, Err}
 
 module _ (directions : List ℤ) (bytes : List ℕ) (needed tolerance : ℕ) (words : List ℕ) (i : Identification)
     (I : Identified directions bytes needed tolerance words i) (r : Contest) (C : Contested directions bytes needed tolerance words r) where
@@ -31,7 +31,7 @@ module _ (directions : List ℤ) (bytes : List ℕ) (needed tolerance : ℕ) (wo
   computed = ap (λ (j : Identification). j.outcome) (sym ours)
 
   -- refused exactly as the search is
-  pub refused-too : (q : Refusal) → i.outcome ≡ Refused q → r ≡ refused_with q
+  pub refused-too : (q : Refusal) → i.outcome ≡ Err q → r ≡ refused_with q
   refused-too q e = C.refused q (computed ∙ e)
 
   -- the assignments that fit, the rivals of ours among them, and the ranking's order
@@ -44,14 +44,14 @@ module _ (directions : List ℤ) (bytes : List ℕ) (needed tolerance : ℕ) (wo
   abbrev ranked : Ranking
   ranked = ranking_of (directions_in directions) (records_in bytes) words
 
-  module _ (e : i.outcome ≡ Accepted) where
+  module _ (e : i.outcome ≡ Ok tt) where
     judged : Judged (setup_for directions bytes needed tolerance) i.stars words directions (stars_of bytes) r
     judged =
         subst (λ (j : Identification). Judged (setup_for directions bytes needed tolerance) j.stars words directions (stars_of bytes) r) (sym ours)
         (C.judged (computed ∙ e))
 
     -- accepted exactly where the search is
-    pub accepted-too : r.outcome ≡ Accepted
+    pub accepted-too : r.outcome ≡ Ok tt
     accepted-too = judged.accepted
 
     -- alone exactly where there is no rival

@@ -6,19 +6,20 @@ ghost use Rattle.search_fit.specs.Fit.{setup_of};
 ghost use Rattle.search_backtrack.specs.Input.{Input};
 ghost use Rattle.search_rival.specs.Contested.{FirstRival, contest_by, Contested, contest_of};
 
-use refusal::Outcome;
-use search_backtrack::{Answer, Sought};
+use refusal::Refusal;
 
 // What the call answers: whether it is accepted, whether our identification has a rival, and the words of the first; they are 0 behind the
 // directions, where ours is alone, and where the call is refused.
+// Stays: the outcome, the flag and the words beside one another. `Contested` says what each is where ours is alone or the call is refused, and the edits
+// refused_with_a_rival and rival_called_alone try it.
 #[derive(Clone, Copy)]
 pub struct Contest {
-    pub outcome: Outcome,
+    pub outcome: Result<(), Refusal>,
     pub rival: bool,
     pub stars: [u16; 8],
 }
 
-// The first assignment that fits and gives some direction another star than ours does, or that there is none.
+// The words of the first assignment that fits and gives some direction another star than ours does, if there is one.
 fn first_rival(
     ranking: &[u16],
     directions: &[i32],
@@ -26,35 +27,30 @@ fn first_rival(
     needed: usize,
     tolerance: u64,
     ours: [u16; 8],
-) -> Answer
+) -> Option<[u16; 8]>
     requires { Input (setup_of directions.now stars.now needed tolerance) ranking.now directions.now stars.now }
     ensures { FirstRival (setup_of directions.now stars.now needed tolerance) ours ranking.now directions.now
         stars.now result }
 {
-    let rivals = Sought {
-        rival: true,
-        ours: ours,
-    };
+    let rivals = Some(ours);
     search_backtrack::first(ranking, directions, stars, needed, tolerance, rivals)
 }
 
 // The words of the rival that was found, or that ours is alone.
-fn settled(answer: Answer) -> Contest
+fn settled(answer: Option<[u16; 8]>) -> Contest
     ensures { result ≡ contest_by answer }
 {
-    let words = answer.stars;
-    if answer.found {
-        Contest {
-            outcome: Outcome::Accepted,
+    match answer {
+        Some(stars) => Contest {
+            outcome: Ok(()),
             rival: true,
-            stars: words,
-        }
-    } else {
-        Contest {
-            outcome: Outcome::Accepted,
+            stars: stars,
+        },
+        None => Contest {
+            outcome: Ok(()),
             rival: false,
             stars: [0u16; 8],
-        }
+        },
     }
 }
 
@@ -70,26 +66,23 @@ pub fn rival(
         × (result ≡ contest_of directions.now catalogue.now needed tolerance ranking.now) }
 {
     let identification = search::search(directions, catalogue, needed, tolerance, ranking);
-    let ours = identification.stars;
-    let outcome = identification.outcome;
-    match outcome {
-        Outcome::Refused(r) => Contest {
-            outcome: Outcome::Refused(r),
+    if let Err(r) = identification.outcome {
+        return Contest {
+            outcome: Err(r),
             rival: false,
             stars: [0u16; 8],
-        },
-        Outcome::Accepted => {
-            let numbers = catalogue::stars(catalogue);
-            let end = 3 * catalogue::records(catalogue);
-            let answer = first_rival(
-                ranking,
-                directions,
-                &numbers[..end],
-                needed,
-                tolerance,
-                ours,
-            );
-            settled(answer)
-        }
+        };
     }
+    let ours = identification.stars;
+    let numbers = catalogue::stars(catalogue);
+    let end = 3 * catalogue::records(catalogue);
+    let answer = first_rival(
+        ranking,
+        directions,
+        &numbers[..end],
+        needed,
+        tolerance,
+        ours,
+    );
+    settled(answer)
 }

@@ -1,7 +1,6 @@
 -- A word as a number: digits only, at least one, with a value of 64 bits. Any other word is no number. Assumes nothing.
 use Rattle.std.specs.Prelude.{Bool, true, cond, ◌&&◌, List, [], ◌∷◌, ℕ, ◌+◌, ◌-◌, ◌*◌, ltb, leb, ℤ, pos, length}
-use Rattle.text.specs.declared.parse.Parsed.{Parsed}
-use Rattle.text.specs.declared.parse.Parsed.TheVariants.{Number, NoNumber}
+use Rattle.std.specs.Prelude.{Option, Some, None}
 
 -- "0" to "9"
 unfoldable pub is_digit : ℕ → Bool
@@ -20,18 +19,18 @@ abbrev pub value_of : List ℕ → ℕ
 value_of bytes = value_from 0 bytes
 
 -- the value with more digits behind it, where they are digits and 64 bits hold it
-unfoldable pub parsed_from : ℕ → List ℕ → Parsed
+unfoldable pub parsed_from : ℕ → List ℕ → Option ℕ
 parsed_from v bytes =
-    cond (all_digits bytes && ltb (value_from v bytes) 18446744073709551616) (Number (value_from v bytes)) NoNumber
+    cond (all_digits bytes && ltb (value_from v bytes) 18446744073709551616) (Some (value_from v bytes)) None
 
-unfoldable pub parsed_of : List ℕ → Parsed
-parsed_of word = cond (ltb 0 (length word)) (parsed_from 0 word) NoNumber
+unfoldable pub parsed_of : List ℕ → Option ℕ
+parsed_of word = cond (ltb 0 (length word)) (parsed_from 0 word) None
 
 -- ---- as values: the number, or none; the papers have no number for a word that is none
 
-abbrev pub numbers_of : Parsed → List ℤ
-numbers_of (Number n) = pos n ∷ []
-numbers_of NoNumber = []
+abbrev pub numbers_of : Option ℕ → List ℤ
+numbers_of (Some n) = pos n ∷ []
+numbers_of None = []
 
 -- at least one digit, digits only, and a value of 64 bits
 abbrev pub spells : List ℕ → Bool

@@ -1,14 +1,13 @@
 -- What a word's number is: the decimal of a number reads back as that number, and zeros in front change nothing. Assumes nothing.
-use Rattle.std.specs.Prelude.{Bool, true, false, cond, ◌&&◌, ◌≡◌, refl, List, [], ◌∷◌, ℕ, zero, suc, ◌+◌, ◌-◌, ◌*◌, ◌≤◌, ◌<◌, ltb, leb, ℤ, pos, length, drop, get_or}
+use Rattle.std.specs.Prelude.{Bool, true, false, cond, ◌&&◌, ◌≡◌, refl, List, [], ◌∷◌, ℕ, suc, ◌+◌, ◌-◌, ◌*◌, ◌≤◌, ◌<◌, ltb, pos, length, drop, get_or}
 use Rattle.std.proofs.Common.{sym, ap, ◌∙◌, arith, add-one, lt-ltb, le-ltb, le-leb, drop_of_length-le, drop-cons}
 use Rattle.std.proofs.Math.Decide.{dec_lt}
 use Rattle.std.proofs.lemmas.Bool.{lt-leb}
 use Rattle.lists.specs.Contradiction.{contradiction}
-use Rattle.text.specs.declared.parse.Parsed.{Parsed}
-use Rattle.text.specs.declared.parse.Parsed.TheVariants.{Number, NoNumber}
 use Rattle.text.specs.Decimal.{decimal}
-use Rattle.text.specs.DecimalLaws.{IsDecimal, is-decimal}
+use Rattle.text.specs.DecimalLaws.{is-decimal}
 use Rattle.text.specs.Parse.{is_digit, all_digits, value_from, value_of, parsed_from, parsed_of, numbers_of, numbers_for}
+use Rattle.std.specs.Prelude.{Option, Some, None}
 
 -- ---- digit by digit
 
@@ -29,11 +28,11 @@ pub parsed-digit : (v b : ℕ) (bytes : List ℕ) → is_digit b ≡ true → pa
 unfolding parsed_from all_digits value_from
 parsed-digit v b bytes e = rw e
 
-pub parsed-other : (v b : ℕ) (bytes : List ℕ) → is_digit b ≡ false → parsed_from v (b ∷ bytes) ≡ NoNumber
+pub parsed-other : (v b : ℕ) (bytes : List ℕ) → is_digit b ≡ false → parsed_from v (b ∷ bytes) ≡ None
 unfolding parsed_from all_digits value_from
 parsed-other v b bytes e = rw e
 
-pub parsed-end : (v : ℕ) → v < 18446744073709551616 → parsed_from v [] ≡ Number v
+pub parsed-end : (v : ℕ) → v < 18446744073709551616 → parsed_from v [] ≡ Some v
 unfolding parsed_from all_digits value_from
 parsed-end v h = rw (lt-ltb v 18446744073709551616 h)
 
@@ -44,12 +43,12 @@ value_grows v [] = omega arith
 value_grows v (b ∷ bytes) = omega (arith, value_grows (10 * v + (b - 48)) bytes)
 
 -- so a value that does not fit stays one
-pub parsed-large : (v : ℕ) (bytes : List ℕ) → 18446744073709551616 ≤ v → parsed_from v bytes ≡ NoNumber
+pub parsed-large : (v : ℕ) (bytes : List ℕ) → 18446744073709551616 ≤ v → parsed_from v bytes ≡ None
 unfolding parsed_from
 parsed-large v bytes h =
     rw (le-ltb (value_from v bytes) 18446744073709551616 (omega (arith, value_grows v bytes))) (by (all_digits bytes))
   where
-    by : (d : Bool) → cond (d && false) (Number (value_from v bytes)) NoNumber ≡ NoNumber
+    by : (d : Bool) → cond (d && false) (Some (value_from v bytes)) None ≡ None
     by true = refl
     by false = refl
 
@@ -59,26 +58,26 @@ module _ (v b : ℕ) where
   abbrev next : ℕ
   next = 10 * v + (b - 48)
 
-  abbrev one : Parsed
+  abbrev one : Option ℕ
   one = parsed_from v (b ∷ [])
 
   -- how the byte is read decides what it is
-  pub byte-other : is_digit b ≡ false → one ≡ NoNumber
+  pub byte-other : is_digit b ≡ false → one ≡ None
   byte-other p = parsed-other v b [] p
 
-  pub byte-large : is_digit b ≡ true → 18446744073709551616 ≤ next → one ≡ NoNumber
+  pub byte-large : is_digit b ≡ true → 18446744073709551616 ≤ next → one ≡ None
   byte-large p h = parsed-digit v b [] p ∙ parsed-large next [] h
 
-  pub byte-digit : is_digit b ≡ true → next < 18446744073709551616 → one ≡ Number next
+  pub byte-digit : is_digit b ≡ true → next < 18446744073709551616 → one ≡ Some next
   byte-digit p h = parsed-digit v b [] p ∙ parsed-end next h
 
-  number-only : (n m : ℕ) → one ≡ Number n → one ≡ Number m → n ≡ m
+  number-only : (n m : ℕ) → one ≡ Some n → one ≡ Some m → n ≡ m
   number-only n m e f = cc
 
-  no_number : (n : ℕ) → one ≡ Number n → one ≡ NoNumber → ⊥
+  no_number : (n : ℕ) → one ≡ Some n → one ≡ None → ⊥
   no_number n e f = contradiction (cc)
 
-  goes_on : (n : ℕ) (bytes : List ℕ) (d : Bool) → is_digit b ≡ d → Dec (next < 18446744073709551616) → one ≡ Number n → (n < 18446744073709551616)
+  goes_on : (n : ℕ) (bytes : List ℕ) (d : Bool) → is_digit b ≡ d → Dec (next < 18446744073709551616) → one ≡ Some n → (n < 18446744073709551616)
       × (parsed_from v (b ∷ bytes) ≡ parsed_from n bytes)
   goes_on n bytes false p l e = absurd (no_number n e (byte-other p))
   goes_on n bytes true p (no l) e = absurd (no_number n e (byte-large p (omega arith)))
@@ -86,17 +85,17 @@ module _ (v b : ℕ) where
       let same = number-only next n (byte-digit p l) e in
       (omega arith, parsed-digit v b bytes p ∙ ap (λ (x : ℕ). parsed_from x bytes) same)
 
-  stops : (bytes : List ℕ) (d : Bool) → is_digit b ≡ d → Dec (next < 18446744073709551616) → one ≡ NoNumber → parsed_from v (b ∷ bytes) ≡ NoNumber
+  stops : (bytes : List ℕ) (d : Bool) → is_digit b ≡ d → Dec (next < 18446744073709551616) → one ≡ None → parsed_from v (b ∷ bytes) ≡ None
   stops bytes false p l e = parsed-other v b bytes p
   stops bytes true p (no l) e = parsed-digit v b bytes p ∙ parsed-large next bytes (omega arith)
   stops bytes true p (yes l) e = absurd (no_number next (byte-digit p l) e)
 
 module _ (word : List ℕ) (i v : ℕ) (inside : i < length word) where
-  pub parsed-next : (n : ℕ) → parsed_from v (get_or word i 0 ∷ []) ≡ Number n → (n < 18446744073709551616)
+  pub parsed-next : (n : ℕ) → parsed_from v (get_or word i 0 ∷ []) ≡ Some n → (n < 18446744073709551616)
       × (parsed_from v (drop i word) ≡ parsed_from n (drop (i + 1) word))
   parsed-next n e = rw (add-one, drop-cons word i 0 inside) (goes_on v (get_or word i 0) n (drop (suc i) word) (is_digit (get_or word i 0)) refl (dec_lt _ _) e)
 
-  pub parsed-stop : parsed_from v (get_or word i 0 ∷ []) ≡ NoNumber → parsed_from v (drop i word) ≡ NoNumber
+  pub parsed-stop : parsed_from v (get_or word i 0 ∷ []) ≡ None → parsed_from v (drop i word) ≡ None
   parsed-stop e = rw (drop-cons word i 0 inside) (stops v (get_or word i 0) (drop (suc i) word) (is_digit (get_or word i 0)) refl (dec_lt _ _) e)
 
 module _ (word : List ℕ) where
@@ -104,12 +103,12 @@ module _ (word : List ℕ) where
   unfolding parsed_of
   parsed-some h = rw (lt-ltb 0 (length word) h)
 
-  pub parsed-empty : length word ≡ 0 → parsed_of word ≡ NoNumber
+  pub parsed-empty : length word ≡ 0 → parsed_of word ≡ None
   unfolding parsed_of
   parsed-empty h = rw (le-ltb 0 (length word) (omega arith))
 
   -- what was read when the word ends
-  pub parsed-whole : (i v : ℕ) → length word ≤ i → v < 18446744073709551616 → parsed_from v (drop i word) ≡ Number v
+  pub parsed-whole : (i v : ℕ) → length word ≤ i → v < 18446744073709551616 → parsed_from v (drop i word) ≡ Some v
   parsed-whole i v h k = ap (parsed_from v) (drop_of_length-le word h) ∙ parsed-end v k
 
 -- ---- what it is for
@@ -120,7 +119,7 @@ all_digits_lem [] h = refl
 all_digits_lem (b ∷ bytes) h = rw (digit-is b (h 0 (omega arith)).0 (h 0 (omega arith)).1, all_digits_lem bytes (λ k l. h (suc k) (omega arith)))
 
 -- the decimal of a number that fits reads back as that number
-pub decimal-parsed : (n : ℕ) → n < 18446744073709551616 → parsed_of (decimal n) ≡ Number n
+pub decimal-parsed : (n : ℕ) → n < 18446744073709551616 → parsed_of (decimal n) ≡ Some n
 unfolding parsed_from
 decimal-parsed n h =
     let d = is-decimal n in
@@ -136,11 +135,11 @@ zero-in-front word h =
 
 -- ---- as values
 
-pub told : (word : List ℕ) {p : Parsed} → p ≡ parsed_of word → (p ≡ parsed_of word) × (numbers_of p ≡ numbers_for word)
+pub told : (word : List ℕ) {p : Option ℕ} → p ≡ parsed_of word → (p ≡ parsed_of word) × (numbers_of p ≡ numbers_for word)
 unfolding parsed_of parsed_from
-told word e = (e, ap (λ (p : Parsed). numbers_of p) e ∙ by (ltb 0 (length word)) (all_digits word && ltb (value_of word) 18446744073709551616))
+told word e = (e, ap (λ (p : Option ℕ). numbers_of p) e ∙ by (ltb 0 (length word)) (all_digits word && ltb (value_of word) 18446744073709551616))
   where
-    by : (a b : Bool) → numbers_of (cond a (cond b (Number (value_of word)) NoNumber) NoNumber) ≡ cond (a && b) (pos (value_of word) ∷ []) []
+    by : (a b : Bool) → numbers_of (cond a (cond b (Some (value_of word)) None) None) ≡ cond (a && b) (pos (value_of word) ∷ []) []
     by true true = refl
     by true false = refl
     by false b = refl

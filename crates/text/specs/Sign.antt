@@ -1,34 +1,31 @@
 -- A word as a signed number of 64 bits: its size, with "-" in front where it is below zero. Any other word is no number. Assumes nothing.
 use Rattle.std.specs.Prelude.{cond, List, [], ◌∷◌, map, ℕ, ltb, eqb, ℤ, pos, neg_ℤ}
 use Rattle.std.specs.Int.Signed.{mag}
-use Rattle.text.specs.declared.parse.Parsed.{Parsed}
-use Rattle.text.specs.declared.parse.Parsed.TheVariants as parsed
-use Rattle.text.specs.declared.sign.Signed.{Signed}
-use Rattle.text.specs.declared.sign.Signed.TheVariants.{Number, NoNumber}
 use Rattle.text.specs.Parse.{parsed_of, numbers_for as sizes_for}
+use Rattle.std.specs.Prelude.{Option, Some, None}
 
 -- a number from -2^63 to 2^63 - 1: `mag` is n both for n and for -(n + 1)
-unfoldable pub fitting : ℤ → Signed
-fitting z = cond (ltb (mag z) 9223372036854775808) (Number z) NoNumber
+unfoldable pub fitting : ℤ → Option ℤ
+fitting z = cond (ltb (mag z) 9223372036854775808) (Some z) None
 
 -- a size, and a size behind a "-"
-abbrev pub positive_of : Parsed → Signed
-positive_of (parsed.Number n) = fitting (pos n)
-positive_of parsed.NoNumber = NoNumber
+abbrev pub positive_of : Option ℕ → Option ℤ
+positive_of (Some n) = fitting (pos n)
+positive_of None = None
 
-abbrev pub negative_of : Parsed → Signed
-negative_of (parsed.Number n) = fitting (neg_ℤ (pos n))
-negative_of parsed.NoNumber = NoNumber
+abbrev pub negative_of : Option ℕ → Option ℤ
+negative_of (Some n) = fitting (neg_ℤ (pos n))
+negative_of None = None
 
-unfoldable pub parsed_signed_of : List ℕ → Signed
-parsed_signed_of [] = NoNumber
+unfoldable pub parsed_signed_of : List ℕ → Option ℤ
+parsed_signed_of [] = None
 parsed_signed_of (b ∷ word) = cond (eqb b 45) (negative_of (parsed_of word)) (positive_of (parsed_of (b ∷ word)))
 
 -- ---- as values: the number, or none
 
-abbrev pub numbers_of : Signed → List ℤ
-numbers_of (Number z) = z ∷ []
-numbers_of NoNumber = []
+abbrev pub numbers_of : Option ℤ → List ℤ
+numbers_of (Some z) = z ∷ []
+numbers_of None = []
 
 -- those from -m to m - 1
 unfoldable pub held : ℕ → List ℤ → List ℤ

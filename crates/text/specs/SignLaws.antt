@@ -1,26 +1,23 @@
 -- A word as a signed number, by its first byte; and the decimal of a signed number reads back as that number. Assumes nothing.
-use Rattle.std.specs.Prelude.{Bool, true, false, cond, ◌≡◌, refl, List, [], ◌∷◌, map, ℕ, zero, suc, ◌≤◌, ◌<◌, ltb, eqb, ℤ, pos, negsuc, neg_ℤ, length, drop, get_or}
-use Rattle.std.proofs.Common.{sym, ap, ◌∙◌, arith, lt-ltb, le-ltb, eq-eqb, ne_eqb}
+use Rattle.std.specs.Prelude.{Bool, true, false, cond, ◌≡◌, refl, List, [], ◌∷◌, map, ℕ, suc, ◌≤◌, ◌<◌, ltb, eqb, ℤ, pos, negsuc, neg_ℤ, length, drop, get_or}
+use Rattle.std.proofs.Common.{ap, ◌∙◌, arith, lt-ltb, le-ltb, eq-eqb, ne_eqb}
 use Rattle.std.specs.Int.Signed.{mag}
-use Rattle.text.specs.declared.parse.Parsed.{Parsed}
-use Rattle.text.specs.declared.sign.Signed.{Signed}
-use Rattle.text.specs.declared.sign.Signed.TheVariants.{Number, NoNumber}
 use Rattle.text.specs.Decimal.{decimal, signed_decimal}
 use Rattle.text.specs.DecimalLaws.{is-decimal}
-use Rattle.text.specs.declared.parse.Parsed.TheVariants as parsed
 use Rattle.text.specs.Parse.{parsed_of, numbers_of as sizes_of, numbers_for as sizes_for}
 use Rattle.text.specs.Sign.{fitting, positive_of, negative_of, parsed_signed_of, numbers_of, held, numbers_for}
 use Rattle.text.specs.ParseLaws.{decimal-parsed, told as sizes-told}
+use Rattle.std.specs.Prelude.{Option, Some, None}
 
-pub fits : (z : ℤ) → mag z < 9223372036854775808 → fitting z ≡ Number z
+pub fits : (z : ℤ) → mag z < 9223372036854775808 → fitting z ≡ Some z
 unfolding fitting
 fits z h = rw (lt-ltb (mag z) 9223372036854775808 h)
 
-pub too_far : (z : ℤ) → 9223372036854775808 ≤ mag z → fitting z ≡ NoNumber
+pub too_far : (z : ℤ) → 9223372036854775808 ≤ mag z → fitting z ≡ None
 unfolding fitting
 too_far z h = rw (le-ltb (mag z) 9223372036854775808 h)
 
-pub empty-read : (word : List ℕ) → length word ≡ 0 → parsed_signed_of word ≡ NoNumber
+pub empty-read : (word : List ℕ) → length word ≡ 0 → parsed_signed_of word ≡ None
 unfolding parsed_signed_of
 empty-read [] h = refl
 empty-read (b ∷ word) h = absurd (omega arith)
@@ -36,17 +33,17 @@ size-read [] h e = absurd (omega arith)
 size-read (b ∷ word) h e = rw (ne_eqb b 45 e)
 
 -- a signed number of 64 bits in decimal reads back as that number
-pub signed-parsed : (z : ℤ) → mag z < 9223372036854775808 → parsed_signed_of (signed_decimal z) ≡ Number z
+pub signed-parsed : (z : ℤ) → mag z < 9223372036854775808 → parsed_signed_of (signed_decimal z) ≡ Some z
 unfolding signed_decimal
 signed-parsed (pos n) h =
     let d = is-decimal n in
     rw (le-ltb n 0 (omega arith))
     (size-read (decimal n) d.some (λ e. omega (arith, (d.digits 0 d.some).0))
-    ∙ ap (λ (p : Parsed). positive_of p) (decimal-parsed n (omega arith))
+    ∙ ap (λ (p : Option ℕ). positive_of p) (decimal-parsed n (omega arith))
     ∙ fits (pos n) h)
 signed-parsed (negsuc k) h =
     minus-read (45 ∷ decimal (suc k)) (omega arith) refl
-    ∙ ap (λ (p : Parsed). negative_of p) (decimal-parsed (suc k) (omega arith))
+    ∙ ap (λ (p : Option ℕ). negative_of p) (decimal-parsed (suc k) (omega arith))
     ∙ fits (negsuc k) h
 
 -- ---- as values
@@ -55,19 +52,19 @@ held_one : (z : ℤ) → numbers_of (fitting z) ≡ held 9223372036854775808 (z 
 unfolding fitting held
 held_one z = by (ltb (mag z) 9223372036854775808)
   where
-    by : (b : Bool) → numbers_of (cond b (Number z) NoNumber) ≡ cond b (z ∷ []) []
+    by : (b : Bool) → numbers_of (cond b (Some z) None) ≡ cond b (z ∷ []) []
     by true = refl
     by false = refl
 
-positive-held : (p : Parsed) → numbers_of (positive_of p) ≡ held 9223372036854775808 (sizes_of p)
+positive-held : (p : Option ℕ) → numbers_of (positive_of p) ≡ held 9223372036854775808 (sizes_of p)
 unfolding held
-positive-held (parsed.Number n) = held_one (pos n)
-positive-held parsed.NoNumber = refl
+positive-held (Some n) = held_one (pos n)
+positive-held None = refl
 
-negative-held : (p : Parsed) → numbers_of (negative_of p) ≡ held 9223372036854775808 (map neg_ℤ (sizes_of p))
+negative-held : (p : Option ℕ) → numbers_of (negative_of p) ≡ held 9223372036854775808 (map neg_ℤ (sizes_of p))
 unfolding held
-negative-held (parsed.Number n) = held_one (neg_ℤ (pos n))
-negative-held parsed.NoNumber = refl
+negative-held (Some n) = held_one (neg_ℤ (pos n))
+negative-held None = refl
 
 numbers-are : (word : List ℕ) → numbers_of (parsed_signed_of word) ≡ numbers_for word
 unfolding parsed_signed_of numbers_for
@@ -79,5 +76,5 @@ numbers-are (b ∷ word) = by (eqb b 45)
     by true = negative-held (parsed_of word) ∙ ap (λ (xs : List ℤ). held 9223372036854775808 (map neg_ℤ xs)) (sizes-told word refl).1
     by false = positive-held (parsed_of (b ∷ word)) ∙ ap (held 9223372036854775808) (sizes-told (b ∷ word) refl).1
 
-pub told : (word : List ℕ) {s : Signed} → s ≡ parsed_signed_of word → (s ≡ parsed_signed_of word) × (numbers_of s ≡ numbers_for word)
-told word e = (e, ap (λ (s : Signed). numbers_of s) e ∙ numbers-are word)
+pub told : (word : List ℕ) {s : Option ℤ} → s ≡ parsed_signed_of word → (s ≡ parsed_signed_of word) × (numbers_of s ≡ numbers_for word)
+told word e = (e, ap (λ (s : Option ℤ). numbers_of s) e ∙ numbers-are word)

@@ -1,5 +1,6 @@
 // Lines of text as bytes in a lent room: words and numbers in decimal, one behind the other. A place is handed in and the next one comes back, so a line is a
 // run of calls. What does not fit is cut at the room's end. And the way back: a word as a number, with a sign or without.
+// Stays: a room and a place, and no writer that holds both (a): the clause `Wrote` of each public function names the room and the place that it is handed.
 #![tactic(auto)]
 
 mod parse;
@@ -10,11 +11,12 @@ ghost use Rattle.text.specs.Decimal.{decimal, signed_decimal};
 ghost use Rattle.text.specs.Refused.{refusal_line};
 ghost use Rattle.text.specs.Written.{Wrote};
 
-pub use parse::{Parsed, parse_number};
+pub use parse::parse_number;
 use refusal::Refusal;
-pub use sign::{Signed, parse_signed};
+pub use sign::parse_signed;
 
 // Puts one byte at a place.
+#[tactic(auto, unfolding(crate::specs::Written::written))]
 fn byte(room: &mut [u8], at: usize, b: u8) -> usize
     ensures { Wrote room.old at (b ∷ []) room.new result }
 {
@@ -30,15 +32,14 @@ pub fn word(room: &mut [u8], at: usize, bytes: &[u8]) -> usize
     ensures { Wrote room.old at bytes.now room.new result }
 {
     let mut next = at;
-    let mut i: usize = 0;
-    while i < bytes.len() {
-        next = byte(room, next, bytes[i]);
-        i += 1;
+    for b in bytes {
+        next = byte(room, next, *b);
     }
     next
 }
 
 // Puts a number at a place, in decimal. Its tenth stands before its last digit.
+// Stays: digit by digit and no `write!` (d): this is `decimal` in five lines, and `write!` wants a writer over the room that cuts at its end.
 pub fn number(room: &mut [u8], at: usize, n: u64) -> usize
     ensures wrote { Wrote room.old at (decimal n) room.new result }
     ensures upper_bound { result ≤ at + 20 }
@@ -55,7 +56,7 @@ pub fn signed(room: &mut [u8], at: usize, z: i64) -> usize
     ensures wrote { Wrote room.old at (signed_decimal z) room.new result }
     ensures upper_bound { result ≤ at + 21 }
 {
-    let size = numbers::abs(z);
+    let size = z.unsigned_abs();
     let is_negative = z < 0;
     if is_negative {
         let next = byte(room, at, b'-');

@@ -2,54 +2,44 @@
 ghost use Rattle.std.specs.Prelude.{◌≡◌};
 ghost use Rattle.text.specs.Sign.{positive_of, negative_of, parsed_signed_of, numbers_of, numbers_for};
 
-use crate::parse::{Parsed, parse_number};
-
-#[derive(Clone, Copy)]
-pub enum Signed {
-    Number(i64),
-    NoNumber,
-}
+use crate::parse::parse_number;
 
 // 2^63: no signed number of 64 bits is as large, and the least one has this size.
 const HALF: usize = 0x8000_0000_0000_0000;
 
 // A size without a sign.
-fn positive(size: Parsed) -> Signed
+fn positive(size: Option<usize>) -> Option<i64>
     ensures { result ≡ positive_of size }
 {
-    let Parsed::Number(n) = size else {
-        return Signed::NoNumber;
-    };
+    let n = size?;
     if HALF <= n {
-        return Signed::NoNumber;
+        return None;
     }
-    Signed::Number(n as i64)
+    Some(n as i64)
 }
 
 // A size behind a "-".
-fn negative(size: Parsed) -> Signed
+fn negative(size: Option<usize>) -> Option<i64>
     ensures { result ≡ negative_of size }
 {
-    let Parsed::Number(n) = size else {
-        return Signed::NoNumber;
-    };
+    let n = size?;
     let is_large = HALF < n;
     if is_large {
-        return Signed::NoNumber;
+        return None;
     }
     if n == 0 {
-        return Signed::Number(0);
+        return Some(0);
     }
-    Signed::Number(numbers::negative((n - 1) as u64))
+    Some(numbers::negative((n - 1) as u64))
 }
 
 // The signed number that a word spells in decimal, with a "-" in front where it is below zero.
-pub fn parse_signed(word: &[u8]) -> Signed
+pub fn parse_signed(word: &[u8]) -> Option<i64>
     ensures value { result ≡ parsed_signed_of word.now }
     ensures result_value { numbers_of result ≡ numbers_for word.now }
 {
     if word.len() == 0 {
-        return Signed::NoNumber;
+        return None;
     }
     let has_minus = word[0] == b'-';
     if has_minus {

@@ -1,6 +1,5 @@
 -- How large dot and cross products can be, and that a dot product does not mind the order of its vectors. Assumes nothing.
-use Rattle.std.specs.Prelude.{◌≡◌, ℕ, ◌+◌, ◌*◌, ◌≤◌, List, ℤ, pos, ◌+ℤ◌, ◌*ℤ◌}
-use Rattle.std.proofs.Common.{◌∙◌, ap}
+use Rattle.std.specs.Prelude.{◌≡◌, ℕ, ◌+◌, ◌*◌, ◌≤◌, List, ℤ, ◌+ℤ◌}
 use Rattle.std.proofs.Math.IntN.{*ℤ_comm}
 use Rattle.numbers.specs.Within.{Within, wider, within-add, within-mul, within-sub}
 use Rattle.vectors.specs.declared.Vec3.{Vec3}

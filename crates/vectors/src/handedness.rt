@@ -15,13 +15,10 @@ fn thousandth(v: Vec3) -> Vec3
     ensures value { result ≡ thousandth_of v }
     ensures within3 { Within3 1000000 result }
 {
-    let x = v.x;
-    let y = v.y;
-    let z = v.z;
     Vec3 {
-        x: x / 1000,
-        y: y / 1000,
-        z: z / 1000,
+        x: v.x / 1000,
+        y: v.y / 1000,
+        z: v.z / 1000,
     }
 }
 
@@ -33,16 +30,7 @@ fn product(a: Vec3, b: Vec3, c: Vec3) -> i64
     ensures value { result ≡ dot_of a (cross_of b c) }
     ensures within { Within 6000000000000000000 result }
 {
-    let ax = a.x;
-    let ay = a.y;
-    let az = a.z;
-    let bx = b.x;
-    let by = b.y;
-    let bz = b.z;
-    let cx = c.x;
-    let cy = c.y;
-    let cz = c.z;
-    ax * (by * cz - bz * cy) + ay * (bz * cx - bx * cz) + az * (bx * cy - by * cx)
+    a.x * (b.y * c.z - b.z * c.y) + a.y * (b.z * c.x - b.x * c.z) + a.z * (b.x * c.y - b.y * c.x)
 }
 
 // The triple product of three vectors in that order.
@@ -72,11 +60,5 @@ fn is_left(p: i64) -> bool
 pub fn are_mirrored(p: i64, q: i64) -> bool
     ensures { result ≡ mirrored p q }
 {
-    if is_right(p) {
-        return is_left(q);
-    }
-    if is_left(p) {
-        return is_right(q);
-    }
-    false
+    is_right(p) && is_left(q) || is_left(p) && is_right(q)
 }

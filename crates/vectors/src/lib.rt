@@ -16,19 +16,14 @@ pub struct Vec3 {
     pub z: i64,
 }
 
+// Stays: functions of two vectors alike. As methods they would favour one of the two, and the operators' traits have no room for what they require.
 pub fn dot(a: Vec3, b: Vec3) -> i64
     requires within3 { Within3 1000000000 a }
     requires within3_2 { Within3 1000000000 b }
     ensures value { result ≡ dot_of a b }
     ensures within { Within 3000000000000000000 result }
 {
-    let ax = a.x;
-    let ay = a.y;
-    let az = a.z;
-    let bx = b.x;
-    let by = b.y;
-    let bz = b.z;
-    ax * bx + ay * by + az * bz
+    a.x * b.x + a.y * b.y + a.z * b.z
 }
 
 pub fn cross(a: Vec3, b: Vec3) -> Vec3
@@ -37,16 +32,10 @@ pub fn cross(a: Vec3, b: Vec3) -> Vec3
     ensures value { result ≡ cross_of a b }
     ensures within3_3 { Within3 2000000000000000000 result }
 {
-    let ax = a.x;
-    let ay = a.y;
-    let az = a.z;
-    let bx = b.x;
-    let by = b.y;
-    let bz = b.z;
     Vec3 {
-        x: ay * bz - az * by,
-        y: az * bx - ax * bz,
-        z: ax * by - ay * bx,
+        x: a.y * b.z - a.z * b.y,
+        y: a.z * b.x - a.x * b.z,
+        z: a.x * b.y - a.y * b.x,
     }
 }
 
@@ -55,7 +44,7 @@ fn number_at(list: &[i32], k: usize) -> i64
     requires { k < length list.now }
     ensures { result ≡ get_or list.now k (pos 0) }
 {
-    list[k] as i64
+    i64::from(list[k])
 }
 
 // The i'th triple of a list.
@@ -87,5 +76,5 @@ pub fn agree(p: i64, q: i64, tolerance: u64) -> bool
     requires within_2 { Within 3000000000000000000 q }
     ensures { result ≡ agreeing p q tolerance }
 {
-    numbers::abs(p - q) <= tolerance
+    p.abs_diff(q) <= tolerance
 }

@@ -1,6 +1,6 @@
 -- How the numbers of some bytes and of those behind them are joined, and which bytes decide. Assumes nothing.
-use Rattle.std.specs.Prelude.{List, ◌≡◌, refl, ℕ, zero, suc, ◌+◌, ◌*◌, ◌^◌, ◌≤◌, ◌<◌, get_or}
-use Rattle.std.proofs.Common.{add-zero, add-suc, mul_assoc, one-mul, arith}
+use Rattle.std.specs.Prelude.{List, ◌≡◌, refl, ℕ, zero, suc, ◌+◌, ◌*◌, ◌^◌, ◌<◌, get_or}
+use Rattle.std.proofs.Common.{add-zero, add-suc, mul_assoc, arith}
 use Rattle.std.proofs.Math.Nat.{pow-succ'}
 use Rattle.words.specs.Number.{number_at}
 

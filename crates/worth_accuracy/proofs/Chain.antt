@@ -7,8 +7,6 @@ use Rattle.std.proofs.Math.ListN.{length}
 use Rattle.std.proofs.Math.Seq.{get_or-take, length-take-le}
 use Rattle.lists.specs.Contradiction.{contradiction}
 use Rattle.refusal.specs.declared.Refusal.{Refusal}
-use Rattle.refusal.specs.declared.Outcome.{Outcome}
-use Rattle.refusal.specs.declared.Outcome.TheVariants.{Accepted, Refused}
 use Rattle.refusal.specs.Table.{first_applying, answered, otherwise}
 use Rattle.refusal.specs.Laws.{Silent, otherwise-accepted}
 use Rattle.refusal.proofs.Laws.{accepted-silent}
@@ -17,7 +15,6 @@ use Rattle.vectors.specs.Triples.{triple_at}
 use Rattle.vectors.specs.Unit.{NearlyUnit}
 use Rattle.frame_centroid.specs.declared.Centroid.{Centroid}
 use Rattle.frame_list.specs.declared.Report.{Report}
-use Rattle.camera_direction.specs.declared.Direction.{Direction}
 use Rattle.camera_direction.specs.ListLaws.{directions_in}
 use Rattle.camera_direction.specs.Settings.{Between, position_ok}
 use Rattle.camera_direction.specs.SettingsLaws.{Position, ok-position}
@@ -29,26 +26,11 @@ use Rattle.catalogue.specs.Check as catalogue
 use Rattle.catalogue.specs.Stars.{stars_of}
 use Rattle.search.specs.declared.Identification.{Identification}
 use Rattle.attitude.specs.declared.Matrix.{Matrix}
-use Rattle.attitude.specs.declared.Attitude.{Attitude}
-use Rattle.attitude.specs.declared.Attitude.TheVariants as attitude
 use Rattle.attitude.specs.orient.Orient.{orientation_of}
 use Rattle.chain.specs.declared.Settings.{Settings}
 use Rattle.chain.specs.declared.Tracked.{Tracked}
 use Rattle.chain.specs.Sight.{vector_of, sight_of, numbers_of, directions_of, InFrame, nowhere}
-use Rattle.chain.specs.Chain.{
-  Call,
-  listed,
-  settings_rows,
-  demand_rows,
-  refusals_of,
-  refused_with,
-  oriented,
-  settled_of,
-  sights_of,
-  our_identification,
-  located_of,
-  tracked_of,
-}
+use Rattle.chain.specs.Chain.{Call, listed, settings_rows, demand_rows, refusals_of, refused_with, oriented, settled_of, sights_of, our_identification, located_of, tracked_of}
 use Rattle.chain.specs.Ready.{Ready}
 use Rattle.chain.specs.AdmitLaws.{refusals-joined}
 use Rattle.chain.proofs.ReadyLaws.{ready}
@@ -57,8 +39,9 @@ use Rattle.worth_accuracy.specs.Worth.{Worth}
 use Rattle.worth_accuracy.proofs.Worth.{orientation-worth}
 use Rattle.worth_accuracy.specs.Chain.{threes, chain-units, Settled}
 use Rattle.worth_accuracy.specs.Chain as defs
+use Rattle.std.specs.Prelude.{Ok}
 
-module _ (c : Call) (accepted : (tracked_of c).outcome ≡ Accepted) where
+module _ (c : Call) (accepted : (tracked_of c).outcome ≡ Ok tt) where
   abbrev directions : List ℤ
   directions = sights_of (listed c).report c.catalogue c.settings
 
@@ -71,7 +54,7 @@ module _ (c : Call) (accepted : (tracked_of c).outcome ≡ Accepted) where
   tracked-stars : (tracked_of c).stars ≡ ours.stars
   tracked-stars = defs.tracked-stars c accepted
 
-  tracked-found : orientation_of directions (stars_of c.catalogue) ours.stars ≡ attitude.Found (tracked_of c).matrix
+  tracked-found : orientation_of directions (stars_of c.catalogue) ours.stars ≡ Ok (tracked_of c).matrix
   tracked-found = defs.tracked-found c accepted
 
   -- THE LAW

@@ -1,7 +1,6 @@
 -- EVERY CALL, with nothing asked of another: the chain's call for rivals keeps its promise on every frame, and the names of an accepted chain fit. So where the
 -- truth fits and the chain is alone no name is wrong, and the second star is carried as well as the tolerance is narrow. Assumes nothing.
 use Rattle.std.specs.Prelude.{true, false, List, ◌⊎◌, ◌≡◌, refl, ℕ, ◌+◌, ◌*◌, ◌≤◌, ◌<◌, nat_abs}
-use Rattle.refusal.specs.declared.Outcome.TheVariants.{Accepted}
 use Rattle.vectors.specs.Vectors.{dot_of}
 use Rattle.search_theory.specs.Order.{at}
 use Rattle.attitude.specs.Nearly.{Carries}
@@ -13,8 +12,9 @@ use Rattle.worth_names.specs.Names.{BothName}
 use Rattle.worth_accuracy.proofs.Chain.{tracked-worth}
 use Rattle.worth_accuracy.proofs.Second.{v2, w1, w2, second-by-tolerance}
 use Rattle.worth_accuracy.specs.Names.{FitsFrame, chain-no-wrong-name, chain-wrong-name}
+use Rattle.std.specs.Prelude.{Ok}
 
-module _ (c : Call) (accepted : (tracked_of c).outcome ≡ Accepted) where
+module _ (c : Call) (accepted : (tracked_of c).outcome ≡ Ok tt) where
   module _ (truth : List ℕ) (i : ℕ) (both : BothName (sights_of (listed c).report c.catalogue c.settings) c.catalogue (tracked_of c).stars truth i)
     where
       pub name-true : FitsFrame c truth → (contested_of c).rival ≡ false → at (tracked_of c).stars i ≡ at truth i

@@ -2,8 +2,6 @@
 use Rattle.std.specs.Prelude.{◌≡◌, refl}
 use Rattle.std.proofs.Common.{sym, ap, ◌∙◌, subst}
 use Rattle.lists.specs.Contradiction.{contradiction}
-use Rattle.refusal.specs.declared.Outcome.{Outcome}
-use Rattle.refusal.specs.declared.Outcome.TheVariants.{Accepted, Refused}
 use Rattle.refusal.specs.Table.{first_applying}
 use Rattle.chain.specs.declared.Tracked.{Tracked}
 use Rattle.chain.specs.Chain as plain
@@ -13,8 +11,10 @@ use Rattle.chain_by_index.specs.Laws.{accepted-right, right-tracked, refused-tra
 use Rattle.worth_accuracy.specs.Worth.{Worth}
 use Rattle.worth_accuracy.proofs.Chain.{tracked-worth}
 use Rattle.worth_accuracy.specs.Index as defs
+use Rattle.std.specs.Prelude.{Ok}
+use Rattle.refusal.specs.declared.Refusal.{Refusal}
 
-module _ (c : Call) (accepted : (tracked_of c).outcome ≡ Accepted) where
+module _ (c : Call) (accepted : (tracked_of c).outcome ≡ Ok tt) where
   is_plain : tracked_of c ≡ plain.tracked_of c.chain
   is_plain = defs.is_plain c accepted
 

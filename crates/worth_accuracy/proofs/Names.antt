@@ -3,7 +3,6 @@
 -- for rivals. Assumes nothing.
 use Rattle.std.specs.Prelude.{true, false, List, [], ◌∷◌, ◌⊎◌, ◌≡◌, refl, ℕ, ◌+◌, ◌*◌, ◌≤◌, ◌<◌, ℤ, pos, ◌-ℤ◌}
 use Rattle.std.proofs.Common.{sym, ap, ◌∙◌, subst, arith}
-use Rattle.refusal.specs.declared.Outcome.TheVariants.{Accepted}
 use Rattle.refusal.specs.Table.{first_applying, answered}
 use Rattle.numbers.specs.Within.{Within}
 use Rattle.numbers.specs.Solver.{var, ◌⊖◌}
@@ -14,7 +13,6 @@ use Rattle.vectors.specs.Vectors.{Within3}
 use Rattle.vectors.specs.Symbols.{less_of}
 use Rattle.frame_centroid.specs.declared.Centroid.{Centroid}
 use Rattle.frame_list.specs.declared.Report.{Report}
-use Rattle.camera_direction.specs.declared.Direction.{Direction}
 use Rattle.camera_direction.specs.ListLaws.{directions_in}
 use Rattle.camera_direction.specs.Position.{toward_of}
 use Rattle.camera_direction.specs.SettingsLaws.{Position}
@@ -38,6 +36,8 @@ use Rattle.worth_names.proofs.Tolerance.{truth-fits}
 use Rattle.worth_names.specs.Sure.{tolerance_for, moved_by, position-moved}
 use Rattle.worth_accuracy.specs.Chain.{tracked-settled, tracked-stars}
 use Rattle.worth_accuracy.specs.Names.{chain-no-wrong-name}
+use Rattle.std.specs.Prelude.{Ok}
+use Rattle.refusal.specs.declared.Refusal.{Refusal}
 
 module _ (c : Call) where
   abbrev s : Settings
@@ -51,7 +51,7 @@ module _ (c : Call) where
 
   module _
       (contested : Contested sights c.catalogue s.needed s.tolerance ranking (our_contest (listed c).report c.catalogue s))
-      (accepted : (tracked_of c).outcome ≡ Accepted)
+      (accepted : (tracked_of c).outcome ≡ Ok tt)
     where
       module _ (truth : List ℕ) (i : ℕ) (both : BothName sights c.catalogue (tracked_of c).stars truth i) where
         -- errors that the tolerance covers, and alone: no wrong name

@@ -17,8 +17,6 @@ use Rattle.catalogue.specs.Valid.{Valid, StarRule}
 use Rattle.catalogue.specs.ValidStars.{valid-length, valid-at}
 use Rattle.search_theory.specs.Order.{at}
 use Rattle.attitude.specs.declared.Matrix.{Matrix}
-use Rattle.attitude.specs.declared.Attitude.{Attitude}
-use Rattle.attitude.specs.declared.Attitude.TheVariants.{Found}
 use Rattle.attitude.specs.Scale.{largest_of}
 use Rattle.attitude.specs.Side.{axes_of}
 use Rattle.attitude.specs.Attitude.{attitude_of}
@@ -27,11 +25,13 @@ use Rattle.attitude.specs.Nearly.{Apart, NearlyOrthonormal, Carries, NearlyRotat
 use Rattle.attitude.proofs.Accuracy.{camera-apart, sky-apart, found-axes, rotation, star-carried, seen-carried}
 use Rattle.attitude.specs.orient.Orient.{first_assigned, second_assigned, orientation_of}
 use Rattle.worth_accuracy.specs.Worth.{Worth, attitude-worth}
+use Rattle.std.specs.Prelude.{Ok}
+use Rattle.refusal.specs.declared.Refusal.{Refusal}
 
 -- and of any that an identification gave
 pub orientation-worth :
     (directions : List ℤ) (bytes : List ℕ) (words : List ℕ) (m : Matrix) → Valid bytes → length directions ≡ 3 * directions_in directions →
     ((k : ℕ) → k < directions_in directions → NearlyUnit 500000000000 (triple_at directions k)) →
-    orientation_of directions (stars_of bytes) words ≡ Found m → Worth directions bytes words m
+    orientation_of directions (stars_of bytes) words ≡ Ok m → Worth directions bytes words m
 unfolding orientation_of
 orientation-worth directions bytes words m valid threes units found = attitude-worth directions bytes words m _ _ valid threes units found

@@ -1,8 +1,6 @@
 -- EVERY RECORD OF A BURST whose frame is accepted: the matrix that is read from it has every law of the chain's. Assumes nothing.
 use Rattle.std.specs.Prelude.{List, ◌≡◌, refl, ℕ, ◌*◌, ◌<◌, take, drop}
 use Rattle.std.proofs.Common.{sym, ap, ◌∙◌, subst}
-use Rattle.refusal.specs.declared.Outcome.{Outcome}
-use Rattle.refusal.specs.declared.Outcome.TheVariants.{Accepted}
 use Rattle.refusal.specs.Table.{first_applying}
 use Rattle.attitude.specs.declared.Matrix.{Matrix}
 use Rattle.chain_burst.specs.records.Record.{Record, record_size, record_of, decoded}
@@ -11,8 +9,10 @@ use Rattle.chain.specs.Chain.{listed, sights_of, tracked_of}
 use Rattle.chain_burst.specs.Burst.{frame_at, Call, size_of, frames_in, refusals_of, records_after}
 use Rattle.chain_burst.proofs.Laws.{decoded-at}
 use Rattle.worth_accuracy.specs.Worth.{Worth}
+use Rattle.std.specs.Prelude.{Ok}
+use Rattle.refusal.specs.declared.Refusal.{Refusal}
 
-module _ (c : Call) (whole : first_applying (refusals_of c) ≡ Accepted) (k : ℕ) (inside : k < frames_in c) where
+module _ (c : Call) (whole : first_applying (refusals_of c) ≡ Ok tt) (k : ℕ) (inside : k < frames_in c) where
   -- the single call on frame k, and what stands in its record
   abbrev single : chain.Call
   single = chain.call (frame_at (size_of c) c.samples k) c.catalogue c.settings c.room

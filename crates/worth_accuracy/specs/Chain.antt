@@ -7,8 +7,6 @@ use Rattle.std.proofs.Math.ListN.{length}
 use Rattle.std.proofs.Math.Seq.{get_or-take, length-take-le}
 use Rattle.lists.specs.Contradiction.{contradiction}
 use Rattle.refusal.specs.declared.Refusal.{Refusal}
-use Rattle.refusal.specs.declared.Outcome.{Outcome}
-use Rattle.refusal.specs.declared.Outcome.TheVariants.{Accepted, Refused}
 use Rattle.refusal.specs.Table.{first_applying, answered, otherwise}
 use Rattle.refusal.specs.Laws.{Silent, otherwise-accepted}
 use Rattle.refusal.proofs.Laws.{accepted-silent}
@@ -17,7 +15,6 @@ use Rattle.vectors.specs.Triples.{triple_at}
 use Rattle.vectors.specs.Unit.{NearlyUnit}
 use Rattle.frame_centroid.specs.declared.Centroid.{Centroid}
 use Rattle.frame_list.specs.declared.Report.{Report}
-use Rattle.camera_direction.specs.declared.Direction.{Direction}
 use Rattle.camera_direction.specs.ListLaws.{directions_in}
 use Rattle.camera_direction.specs.Settings.{Between, position_ok}
 use Rattle.camera_direction.specs.SettingsLaws.{Position, ok-position}
@@ -29,31 +26,17 @@ use Rattle.catalogue.specs.Check as catalogue
 use Rattle.catalogue.specs.Stars.{stars_of}
 use Rattle.search.specs.declared.Identification.{Identification}
 use Rattle.attitude.specs.declared.Matrix.{Matrix}
-use Rattle.attitude.specs.declared.Attitude.{Attitude}
-use Rattle.attitude.specs.declared.Attitude.TheVariants as attitude
 use Rattle.attitude.specs.orient.Orient.{orientation_of}
 use Rattle.chain.specs.declared.Settings.{Settings}
 use Rattle.chain.specs.declared.Tracked.{Tracked}
 use Rattle.chain.specs.Sight.{vector_of, sight_of, numbers_of, directions_of, InFrame, nowhere}
-use Rattle.chain.specs.Chain.{
-  Call,
-  listed,
-  settings_rows,
-  demand_rows,
-  refusals_of,
-  refused_with,
-  oriented,
-  settled_of,
-  sights_of,
-  our_identification,
-  located_of,
-  tracked_of,
-}
+use Rattle.chain.specs.Chain.{Call, listed, settings_rows, demand_rows, refusals_of, refused_with, oriented, settled_of, sights_of, our_identification, located_of, tracked_of}
 use Rattle.chain.specs.Ready.{Ready}
 use Rattle.chain.specs.AdmitLaws.{refusals-joined}
 use Rattle.chain.proofs.ReadyLaws.{ready}
 use Rattle.chain.specs.ChainLaws.{sights-length, sights-count}
 use Rattle.worth_accuracy.specs.Worth.{Worth}
+use Rattle.std.specs.Prelude.{Result, Ok, Err}
 
 -- ---- a listed star's direction is nearly a unit
 
@@ -67,7 +50,7 @@ module _ (s : Settings) (lens : lens_ok s.lens ≡ true) (centre : Position s.cx
         down = record { at = star.y; is = refl; above = omega arith; below = f.down };
       } in
       let e = found s.cx s.cy s.lens (pos star.x) (pos star.y) lens centre p in
-      subst (λ (d : Direction). NearlyUnit 500000000000 (vector_of d)) (sym e) (found-unit s.cx s.cy s.lens (pos star.x) (pos star.y) _ e)
+      subst (λ (d : Result Vec3 Refusal). NearlyUnit 500000000000 (vector_of d)) (sym e) (found-unit s.cx s.cy s.lens (pos star.x) (pos star.y) _ e)
 
 -- direction k of a list is that of its star k
 three : (k : ℕ) → 3 * suc k ≡ suc (suc (suc (3 * k)))
@@ -86,13 +69,13 @@ sight-at s (star ∷ stars) (suc k) h =
 
 -- ---- the settings of a call that is not refused early
 
-settings-kept : (s : Settings) → first_applying (settings_rows s) ≡ Accepted → (lens_ok s.lens ≡ true) × Position s.cx s.cy
+settings-kept : (s : Settings) → first_applying (settings_rows s) ≡ Ok tt → (lens_ok s.lens ≡ true) × Position s.cx s.cy
 unfolding settings_rows Silent
 settings-kept s e =
     let q = accepted-silent (settings_rows s) e in
     (not-false (lens_ok s.lens) q.0, ok-position s.cx s.cy (not-false (position_ok s.cx s.cy) q.1.0))
 
-module _ (c : Call) (e : first_applying (refusals_of c) ≡ Accepted) where
+module _ (c : Call) (e : first_applying (refusals_of c) ≡ Ok tt) where
   abbrev s : Settings
   s = c.settings
 
@@ -127,20 +110,20 @@ module _ (c : Call) (e : first_applying (refusals_of c) ≡ Accepted) where
 
 -- ---- an accepted answer
 
-pub record Settled (report : Report) (words : List ℕ) (a : Attitude) (u o : Outcome) : Type 0 where
-  pub early : o ≡ Accepted
-  pub searched : u ≡ Accepted
+pub record Settled (report : Report) (words : List ℕ) (a : Result Matrix Refusal) (u o : Result Unit Refusal) : Type 0 where
+  pub early : o ≡ Ok tt
+  pub searched : u ≡ Ok tt
   pub stars : (answered refused_with (answered refused_with (oriented report words a) u) o).stars ≡ words
-  pub found : a ≡ attitude.Found (answered refused_with (answered refused_with (oriented report words a) u) o).matrix
+  pub found : a ≡ Ok (answered refused_with (answered refused_with (oriented report words a) u) o).matrix
 
-pub settled : (report : Report) (words : List ℕ) (a : Attitude) (u o : Outcome)
-    → (answered refused_with (answered refused_with (oriented report words a) u) o).outcome ≡ Accepted → Settled report words a u o
-settled report words a u (Refused q) e = contradiction (cc)
-settled report words a (Refused q) Accepted e = contradiction (cc)
-settled report words (attitude.Refused q) Accepted Accepted e = contradiction (cc)
-settled report words (attitude.Found m) Accepted Accepted e = record { early = refl; searched = refl; stars = refl; found = refl }
+pub settled : (report : Report) (words : List ℕ) (a : Result Matrix Refusal) (u o : Result Unit Refusal)
+    → (answered refused_with (answered refused_with (oriented report words a) u) o).outcome ≡ Ok tt → Settled report words a u o
+settled report words a u (Err q) e = contradiction (cc)
+settled report words a (Err q) (Ok _) e = contradiction (cc)
+settled report words (Err q) (Ok _) (Ok _) e = contradiction (cc)
+settled report words (Ok m) (Ok _) (Ok _) e = record { early = refl; searched = refl; stars = refl; found = refl }
 
-module _ (c : Call) (accepted : (tracked_of c).outcome ≡ Accepted) where
+module _ (c : Call) (accepted : (tracked_of c).outcome ≡ Ok tt) where
   abbrev directions : List ℤ
   directions = sights_of (listed c).report c.catalogue c.settings
 
@@ -158,6 +141,6 @@ module _ (c : Call) (accepted : (tracked_of c).outcome ≡ Accepted) where
   unfolding tracked_of located_of settled_of
   tracked-stars = tracked-settled.stars
 
-  pub tracked-found : orientation_of directions (stars_of c.catalogue) ours.stars ≡ attitude.Found (tracked_of c).matrix
+  pub tracked-found : orientation_of directions (stars_of c.catalogue) ours.stars ≡ Ok (tracked_of c).matrix
   unfolding tracked_of located_of settled_of
   tracked-found = tracked-settled.found

@@ -3,7 +3,6 @@
 -- for rivals. Assumes nothing.
 use Rattle.std.specs.Prelude.{true, false, List, [], ◌∷◌, ◌⊎◌, ◌≡◌, refl, ℕ, ◌+◌, ◌*◌, ◌≤◌, ◌<◌, ℤ, pos, ◌-ℤ◌}
 use Rattle.std.proofs.Common.{sym, ap, ◌∙◌, subst, arith}
-use Rattle.refusal.specs.declared.Outcome.TheVariants.{Accepted}
 use Rattle.refusal.specs.Table.{first_applying, answered}
 use Rattle.numbers.specs.Within.{Within}
 use Rattle.numbers.specs.Solver.{var, ◌⊖◌}
@@ -14,7 +13,6 @@ use Rattle.vectors.specs.Vectors.{Within3}
 use Rattle.vectors.specs.Symbols.{less_of}
 use Rattle.frame_centroid.specs.declared.Centroid.{Centroid}
 use Rattle.frame_list.specs.declared.Report.{Report}
-use Rattle.camera_direction.specs.declared.Direction.{Direction}
 use Rattle.camera_direction.specs.ListLaws.{directions_in}
 use Rattle.camera_direction.specs.Position.{toward_of}
 use Rattle.camera_direction.specs.SettingsLaws.{Position}
@@ -37,6 +35,8 @@ use Rattle.worth_names.specs.Tolerance.{Assigns, Measured}
 use Rattle.worth_names.proofs.Tolerance.{truth-fits}
 use Rattle.worth_names.specs.Sure.{tolerance_for, moved_by, position-moved}
 use Rattle.worth_accuracy.specs.Chain.{tracked-settled, tracked-stars}
+use Rattle.std.specs.Prelude.{Result, Ok}
+use Rattle.refusal.specs.declared.Refusal.{Refusal}
 
 module _ (c : Call) where
   abbrev s : Settings
@@ -54,7 +54,7 @@ module _ (c : Call) where
 
   module _
       (contested : Contested sights c.catalogue s.needed s.tolerance ranking (our_contest (listed c).report c.catalogue s))
-      (accepted : (tracked_of c).outcome ≡ Accepted)
+      (accepted : (tracked_of c).outcome ≡ Ok tt)
     where
       abbrev contest : Contest
       contest = our_contest (listed c).report c.catalogue s
@@ -63,7 +63,7 @@ module _ (c : Call) where
       unfolding contested_of
       asked = rw (tracked-settled c accepted).early
 
-      judged : contest.outcome ≡ Accepted
+      judged : contest.outcome ≡ Ok tt
       unfolding our_identification
       judged = (contested.judged (tracked-settled c accepted).searched).accepted
 
@@ -105,7 +105,7 @@ sight-moved s star p x y lens centre inside across down =
       across = record { at = star.x; is = refl; above = omega arith; below = inside.across };
       down = record { at = star.y; is = refl; above = omega arith; below = inside.down };
     } in
-    subst (λ (d : Direction). Within3 (moved_by f p) (less_of (vector_of d) (toward_of (x -ℤ s.cx) (y -ℤ s.cy) (pos f))))
+    subst (λ (d : Result Vec3 Refusal). Within3 (moved_by f p) (less_of (vector_of d) (toward_of (x -ℤ s.cx) (y -ℤ s.cy) (pos f))))
     (sym (found s.cx s.cy s.lens (pos star.x) (pos star.y) lens centre at-star))
     (position-moved f p (pos star.x -ℤ s.cx) (pos star.y -ℤ s.cy) (x -ℤ s.cx) (y -ℤ s.cy) (omega (arith, (focal-range s.lens lens).0))
     (within-as (seen-from (pos star.x) x s.cx) across) (within-as (seen-from (pos star.y) y s.cy) down))

@@ -17,8 +17,6 @@ use Rattle.catalogue.specs.Valid.{Valid, StarRule}
 use Rattle.catalogue.specs.ValidStars.{valid-length, valid-at}
 use Rattle.search_theory.specs.Order.{at}
 use Rattle.attitude.specs.declared.Matrix.{Matrix}
-use Rattle.attitude.specs.declared.Attitude.{Attitude}
-use Rattle.attitude.specs.declared.Attitude.TheVariants.{Found}
 use Rattle.attitude.specs.Scale.{largest_of}
 use Rattle.attitude.specs.Side.{axes_of}
 use Rattle.attitude.specs.Attitude.{attitude_of}
@@ -26,6 +24,8 @@ use Rattle.attitude.specs.Transposed.{transposed}
 use Rattle.attitude.specs.Nearly.{Apart, NearlyOrthonormal, Carries, NearlyRotation}
 use Rattle.attitude.proofs.Accuracy.{camera-apart, sky-apart, found-axes, rotation, star-carried, seen-carried}
 use Rattle.attitude.specs.orient.Orient.{first_assigned, second_assigned, orientation_of}
+use Rattle.std.specs.Prelude.{Ok}
+use Rattle.refusal.specs.declared.Refusal.{Refusal}
 
 -- the first two directions that have a star, with it; every direction and every star is nearly a unit; the matrix is the attitude of those two; the axes of
 -- both sides are nearly orthonormal; and the matrix carries the first star to where it was seen within
@@ -41,7 +41,7 @@ pub record Worth (directions : List ℤ) (bytes : List ℕ) (words : List ℕ) (
   pub stars : (k : ℕ) → k < records_in bytes → NearlyUnit 4000000000 (triple_at (stars_of bytes) k)
   pub found :
       attitude_of (triple_at directions first) (triple_at directions second) (triple_at (stars_of bytes) (at words first))
-      (triple_at (stars_of bytes) (at words second)) ≡ Found m
+      (triple_at (stars_of bytes) (at words second)) ≡ Ok m
   pub camera : NearlyOrthonormal (axes_of (triple_at directions first) (triple_at directions second))
   pub sky : NearlyOrthonormal (axes_of (triple_at (stars_of bytes) (at words first)) (triple_at (stars_of bytes) (at words second)))
   pub carries : Carries 22000000000 m (triple_at (stars_of bytes) (at words first)) (triple_at directions first)
@@ -93,7 +93,7 @@ module _
     (valid : Valid bytes) (threes : length directions ≡ 3 * directions_in directions)
     (units : (k : ℕ) → k < directions_in directions → NearlyUnit 500000000000 (triple_at directions k))
     (found : attitude_of (triple_at directions i) (triple_at directions j) (triple_at (stars_of bytes) (at words i)) (triple_at (stars_of bytes) (at words j))
-    ≡ Found m)
+    ≡ Ok m)
   where
     abbrev v1 : Vec3
     v1 = triple_at directions i

@@ -4,8 +4,6 @@
 use Rattle.std.specs.Prelude.{Bool, true, false, List, ◌⊎◌, ◌≡◌, refl, ℕ, ◌<◌, ℤ}
 use Rattle.std.proofs.Common.{inl, inr, ⊎_elim, sym, ap, ◌∙◌}
 use Rattle.lists.specs.Contradiction.{contradiction}
-use Rattle.refusal.specs.declared.Outcome.{Outcome}
-use Rattle.refusal.specs.declared.Outcome.TheVariants.{Accepted, Refused}
 use Rattle.camera_direction.specs.ListLaws.{directions_in}
 use Rattle.catalogue.specs.Format.{records_in}
 use Rattle.catalogue.specs.Stars.{stars_of}
@@ -16,10 +14,12 @@ use Rattle.search.specs.Identified.{setup_for, identification_of}
 use Rattle.search_rival.specs.declared.Contest.{Contest}
 use Rattle.search_rival.specs.Contested.{Contested}
 use Rattle.worth_names.specs.Names.{FitsCall, BothName, no-wrong-name}
+use Rattle.std.specs.Prelude.{Ok}
+use Rattle.refusal.specs.declared.Refusal.{Refusal}
 
 module _
     (directions : List ℤ) (bytes : List ℕ) (needed tolerance : ℕ) (words : List ℕ) (r : Contest)
-    (contested : Contested directions bytes needed tolerance words r) (answered : r.outcome ≡ Accepted)
+    (contested : Contested directions bytes needed tolerance words r) (answered : r.outcome ≡ Ok tt)
   where
     -- what the search found
     abbrev ours : List ℕ

@@ -3,7 +3,6 @@
 use Rattle.std.specs.Prelude.{false, List, ◌≡◌, ℕ, ◌+◌, ◌*◌, ◌/◌, ◌≤◌, ◌<◌, ℤ, pos, ◌-ℤ◌}
 use Rattle.std.proofs.Common.{subst, mod-lt, arith}
 use Rattle.std.proofs.Math.Nat.{div-add-mod}
-use Rattle.refusal.specs.declared.Outcome.TheVariants.{Accepted}
 use Rattle.numbers.specs.Within.{Within}
 use Rattle.vectors.specs.declared.Vec3.{Vec3}
 use Rattle.vectors.specs.Vectors.{Within3}
@@ -21,11 +20,12 @@ use Rattle.worth_names.specs.Names.{BothName, no-wrong-name}
 use Rattle.worth_names.specs.Tolerance.{Assigns, Measured}
 use Rattle.worth_names.proofs.Tolerance.{truth-fits}
 use Rattle.worth_names.specs.Sure.{tolerance_for}
+use Rattle.std.specs.Prelude.{Ok}
 
 -- NO WRONG NAME, from the errors alone
 pub errors-covered :
     {e d g : ℕ} (directions : List ℤ) (bytes : List ℕ) (needed tolerance : ℕ) (words : List ℕ) (r : Contest) (truth : List ℕ) (ideal : ℕ → Vec3) →
-    Contested directions bytes needed tolerance words r → r.outcome ≡ Accepted → r.rival ≡ false →
+    Contested directions bytes needed tolerance words r → r.outcome ≡ Ok tt → r.rival ≡ false →
     Assigns (directions_in directions) (records_in bytes) needed truth → Measured directions (stars_of bytes) truth ideal e d g (records_in bytes)
     → tolerance_for d e ≤ tolerance →
     (i : ℕ) → BothName directions bytes (identification_of directions bytes needed tolerance words).stars truth i

@@ -4,8 +4,6 @@
 use Rattle.std.specs.Prelude.{Bool, true, false, List, ◌⊎◌, ◌≡◌, refl, ℕ, ◌<◌, ℤ}
 use Rattle.std.proofs.Common.{inl, inr, ⊎_elim, sym, ap, ◌∙◌}
 use Rattle.lists.specs.Contradiction.{contradiction}
-use Rattle.refusal.specs.declared.Outcome.{Outcome}
-use Rattle.refusal.specs.declared.Outcome.TheVariants.{Accepted, Refused}
 use Rattle.camera_direction.specs.ListLaws.{directions_in}
 use Rattle.catalogue.specs.Format.{records_in}
 use Rattle.catalogue.specs.Stars.{stars_of}
@@ -15,6 +13,8 @@ use Rattle.search_fit.specs.Fit.{FitsHere}
 use Rattle.search.specs.Identified.{setup_for, identification_of}
 use Rattle.search_rival.specs.declared.Contest.{Contest}
 use Rattle.search_rival.specs.Contested.{Contested}
+use Rattle.std.specs.Prelude.{Result, Ok, Err}
+use Rattle.refusal.specs.declared.Refusal.{Refusal}
 
 module _ (directions : List ℤ) (bytes : List ℕ) (needed tolerance : ℕ) where
   -- an assignment fits the directions and the catalogue's stars
@@ -29,20 +29,20 @@ pub record BothName (directions : List ℤ) (bytes : List ℕ) (ours truth : Lis
 
 module _
     (directions : List ℤ) (bytes : List ℕ) (needed tolerance : ℕ) (words : List ℕ) (r : Contest)
-    (contested : Contested directions bytes needed tolerance words r) (answered : r.outcome ≡ Accepted)
+    (contested : Contested directions bytes needed tolerance words r) (answered : r.outcome ≡ Ok tt)
   where
     -- what the search found
     abbrev ours : List ℕ
     ours = (identification_of directions bytes needed tolerance words).stars
 
-    found : (identification_of directions bytes needed tolerance words).outcome ≡ Accepted
+    found : (identification_of directions bytes needed tolerance words).outcome ≡ Ok tt
     found = by (identification_of directions bytes needed tolerance words).outcome refl
       where
-        by : (o : Outcome) → (identification_of directions bytes needed tolerance words).outcome ≡ o
-            → (identification_of directions bytes needed tolerance words).outcome ≡ Accepted
-        by Accepted e = e
-        by (Refused q) e =
-            let refused : r.outcome ≡ Refused q = ap (λ (c : Contest). c.outcome) (contested.refused q e) in
+        by : (o : Result Unit Refusal) → (identification_of directions bytes needed tolerance words).outcome ≡ o
+            → (identification_of directions bytes needed tolerance words).outcome ≡ Ok tt
+        by (Ok _) e = e
+        by (Err q) e =
+            let refused : r.outcome ≡ Err q = ap (λ (c : Contest). c.outcome) (contested.refused q e) in
             contradiction (cc)
 
     module _ (truth : List ℕ) (i : ℕ) (both : BothName directions bytes ours truth i) where

@@ -3,7 +3,6 @@
 use Rattle.std.specs.Prelude.{false, List, ◌≡◌, ℕ, ◌+◌, ◌*◌, ◌/◌, ◌≤◌, ◌<◌, ℤ, pos, ◌-ℤ◌}
 use Rattle.std.proofs.Common.{subst, mod-lt, arith}
 use Rattle.std.proofs.Math.Nat.{div-add-mod}
-use Rattle.refusal.specs.declared.Outcome.TheVariants.{Accepted}
 use Rattle.numbers.specs.Within.{Within}
 use Rattle.vectors.specs.declared.Vec3.{Vec3}
 use Rattle.vectors.specs.Vectors.{Within3}

@@ -1,11 +1,11 @@
 -- The numbers of a frame's list do for the list: the guider looks at how many stars there are and where, and at nothing else; so the list of
 -- `mnemathor_list` is never the cause of 22. Assumes nothing.
 use Rattle.std.proofs.Math.Bool.{Bool, false, cond, not}
-use Rattle.std.specs.Prelude.{true, ◌&&◌, ◌≡◌, ℤ, pos, get_or, take}
+use Rattle.std.specs.Prelude.{true, ◌&&◌, ◌≡◌, ℤ}
 use Rattle.std.proofs.Math.Path.{refl, ap, subst}
 use Rattle.std.proofs.Common.{sym, ◌∙◌}
-use mathlib.Core.List.{List, ◌∷◌, ◌++◌}
-use Prim.Native.Nat.{ℕ, zero, suc, ◌+◌, ◌*◌, ◌≤◌, ◌<◌}
+use mathlib.Core.List.{List, ◌++◌}
+use Prim.Native.Nat.{ℕ, zero, suc, ◌*◌, ◌≤◌, ◌<◌}
 use Rattle.std.proofs.Math.Decide.{dec_lt}
 use native.Mathlib.Omega.{arith}
 use borrow.Author.Tests.{ne_eqb}
@@ -15,8 +15,6 @@ use Rattle.lists.specs.First.{first}
 use Rattle.lists.specs.Number.{number}
 use Rattle.lists.specs.Tests.{all, some}
 use Rattle.refusal.specs.declared.Refusal.{Refusal}
-use Rattle.refusal.specs.declared.Outcome.{Outcome}
-use Rattle.refusal.specs.declared.Outcome.TheVariants.{Accepted, Refused}
 use Rattle.refusal.specs.Table.{first_applying}
 use Rattle.refusal.specs.Laws.{Every}
 use Rattle.refusal.proofs.Laws.{applying-every}
@@ -33,7 +31,6 @@ use Rattle.guider_rule.specs.declared.Guided.{Guided}
 use Rattle.guider_rule.specs.Guider.{guide_at, star_at, live, apart, missed, shared, follows, guide_after, guides_after, guider_after}
 use Rattle.guider_rule.specs.Rule.{on_frame, guider_ok, list_ok}
 use Rattle.guider_rule.specs.Calls.{refused_with, seen_by, guided_of}
-use Rattle.guider_rule.specs.AfterLaws.{is_accepted}
 use Rattle.guider_rule.proofs.FrameLaws.{own-frame}
 use Rattle.numbers.specs.TwosComplement.{signed_of}
 use Rattle.c_numbers.specs.Stars.{joined}
@@ -42,6 +39,7 @@ use Rattle.c_interface.specs.guide.Rooms.{size, unsigned_of, number_in, guider_i
 use Rattle.c_interface.specs.guide.Guider.{framed_in, frame_room, frame_outcome}
 use Rattle.c_interface.specs.guide.ReadLaws.{signed_back}
 use Rattle.c_interface.proofs.guide.ReadLaws.{frame-read}
+use Rattle.std.specs.Prelude.{Result, Ok, Err}
 
 -- ---- the guider looks at positions alone
 
@@ -75,8 +73,8 @@ module _ (g : Guider) (a b : Report) (count : a.count ≡ b.count) (across : (k 
   unfolding list_ok
   same-list = λ j. leb (count j) 8 && all (count j) (λ k. on_frame (across k j) (down k j))
 
-  same_seen : seen_by g a Accepted ≡ seen_by g b Accepted
-  same_seen = λ j. cond (same-list j) (record { outcome = Accepted; guider = same_after j }) (refused_with g)
+  same_seen : seen_by g a (Ok tt) ≡ seen_by g b (Ok tt)
+  same_seen = λ j. cond (same-list j) (record { outcome = Ok tt; guider = same_after j }) (refused_with g)
 
 -- ---- the list that a frame gives
 
@@ -97,7 +95,7 @@ module _ (samples : List ℕ) (width height threshold : ℕ) where
   abbrev numbers : List ℤ
   numbers = listing_numbers listing
 
-  module _ (e : first_applying (frame_rows samples width height threshold) ≡ Accepted) where
+  module _ (e : first_applying (frame_rows samples width height threshold) ≡ Ok tt) where
     abbrev report : Report
     report = report_of samples width height threshold (height * width)
 
@@ -125,7 +123,7 @@ module _ (samples : List ℕ) (width height threshold : ℕ) where
             (omega (arith, ap (λ (c : Centroid). c.x) z), omega (arith, ap (λ (c : Centroid). c.y) z))
 
     -- the report that the numbers are read as has its count and positions
-    numbers-are : numbers ≡ listing_numbers (record { outcome = Accepted; report = report })
+    numbers-are : numbers ≡ listing_numbers (record { outcome = Ok tt; report = report })
     unfolding listing_of
     numbers-are = rw e refl
 
@@ -141,8 +139,8 @@ module _ (samples : List ℕ) (width height threshold : ℕ) where
             × (unsigned_of (signed_of (star_at report k).y) ≡ (star_at report k).y)
         back k h = let p = placed k h in (signed_back (star_at report k).x (omega (arith, p.0)), signed_back (star_at report k).y (omega (arith, p.1)))
 
-        at : (k : ℕ) → ((star_at (report_in (listing_numbers (record { outcome = Accepted; report = report }))) k).x ≡ (star_at report k).x)
-            × ((star_at (report_in (listing_numbers (record { outcome = Accepted; report = report }))) k).y ≡ (star_at report k).y)
+        at : (k : ℕ) → ((star_at (report_in (listing_numbers (record { outcome = Ok tt; report = report }))) k).x ≡ (star_at report k).x)
+            × ((star_at (report_in (listing_numbers (record { outcome = Ok tt; report = report }))) k).y ≡ (star_at report k).y)
         at zero = back 0 (omega arith)
         at (suc zero) = back 1 (omega arith)
         at (suc (suc zero)) = back 2 (omega arith)
@@ -164,7 +162,7 @@ module _ (samples : List ℕ) (width height threshold : ℕ) where
         ∙ same_seen g (report_in numbers) report read_count (λ k. (read-placed k).0) (λ k. (read-placed k).1)
         ∙ rw e refl
 
-  refused-seen : (q : Refusal) → first_applying (frame_rows samples width height threshold) ≡ Refused q → (g : Guider)
+  refused-seen : (q : Refusal) → first_applying (frame_rows samples width height threshold) ≡ Err q → (g : Guider)
       → seen_by g (report_in numbers) (outcome_in (number_in numbers 0)) ≡ seen_by g listing.report listing.outcome
   unfolding listing_of
   refused-seen q e g =
@@ -178,18 +176,18 @@ module _ (samples : List ℕ) (width height threshold : ℕ) where
   unfolding guided_of
   own-list-read g = ap (λ (x : Guided). cond (guider_ok g) x (refused_with g)) (by (first_applying (frame_rows samples width height threshold)) refl)
     where
-      by : (o : Outcome) → first_applying (frame_rows samples width height threshold) ≡ o
+      by : (o : Result Unit Refusal) → first_applying (frame_rows samples width height threshold) ≡ o
           → seen_by g (report_in numbers) (outcome_in (number_in numbers 0)) ≡ seen_by g listing.report listing.outcome
-      by Accepted e = accepted-seen e g
-      by (Refused q) e = refused-seen q e g
+      by (Ok _) e = accepted-seen e g
+      by (Err q) e = refused-seen q e g
 
   list_full : length numbers ≡ 64
   unfolding listing_of joined
   list_full = by (first_applying (frame_rows samples width height threshold))
     where
-      by : (o : Outcome) → length (listing_numbers (record { outcome = o; report = listing.report })) ≡ 64
-      by Accepted = refl
-      by (Refused q) = refl
+      by : (o : Result Unit Refusal) → length (listing_numbers (record { outcome = o; report = listing.report })) ≡ 64
+      by (Ok _) = refl
+      by (Err q) = refl
 
   module _ (room : List ℤ) (fits : length room ≡ size) where
     -- a frame's call leaves the room of the guider that the rule gives for the frame
@@ -197,7 +195,7 @@ module _ (samples : List ℕ) (width height threshold : ℕ) where
     own-frame-read = frame-read room numbers fits list_full ∙ ap (λ (x : Guided). x.guider) (own-list-read (guider_in room))
 
     -- and a guider that keeps its rule is not refused with it: the list is never the cause of 22
-    pub own-list-taken : guider_ok (guider_in room) ≡ true → frame_outcome room numbers ≡ Accepted
+    pub own-list-taken : guider_ok (guider_in room) ≡ true → frame_outcome room numbers ≡ Ok tt
     unfolding frame_outcome framed_in
     own-list-taken ok = rw (fits, list_full) (ap (λ (x : Guided). x.outcome) (own-list-read (guider_in room))
         ∙ own-frame samples width height threshold (guider_in room) ok)

@@ -2,16 +2,13 @@
 use Rattle.std.specs.Prelude.{Bool, cond, ◌≡◌, List, [], ◌∷◌, ◌⊎◌, ltb, ℤ, pos, length, get_or, set}
 use Rattle.std.proofs.Math.Bool.{true, false}
 use Rattle.std.proofs.Math.Path.{refl, ap}
-use Rattle.std.proofs.Common.{sym, subst, ◌∙◌, inl, inr, ⊎_elim, lt-ltb, le-ltb, ltb-false, eqb-true, length-set, ext_get_or, get_or-set_same, get_or-set_other}
+use Rattle.std.proofs.Common.{sym, subst, ◌∙◌, inl, inr, ⊎_elim, le-ltb, ltb-false, eqb-true, length-set, ext_get_or, get_or-set_same, get_or-set_other}
 use Prim.Native.Nat.{ℕ, zero, suc, ◌+◌, ◌*◌, ◌/◌, ◌%◌, ◌≤◌, ◌<◌}
 use Rattle.std.proofs.Math.Decide.{dec_lt, ℕ_discrete}
 use native.Mathlib.Omega.{arith}
 use Rattle.std.proofs.Math.Dec.{eqb}
 use Rattle.std.proofs.Math.ListN.{get_or-eq_default}
-use Rattle.std.specs.Int.Signed.{lt_z}
 use Rattle.lists.specs.Contradiction.{contradiction}
-use Rattle.refusal.specs.declared.Outcome.{Outcome}
-use Rattle.refusal.specs.declared.Outcome.TheVariants.{Accepted, Refused}
 use Rattle.refusal.specs.Numbers as number
 use Rattle.refusal.specs.Table.{refusal_of}
 use Rattle.frame_list.specs.declared.Listing.{Listing}
@@ -28,22 +25,12 @@ use Rattle.guider_rule.proofs.FollowLaws.{follower, misser, stayer, fates}
 use Rattle.guider_rule.specs.AfterLaws.{Whole}
 use Rattle.guider_rule.proofs.AfterLaws.{guide-after, guide-behind, handed, rule-kept, whole-kept, count_kept}
 use Rattle.guider_rule.specs.ChainLaws.{guider_at}
-use Rattle.c_interface.specs.guide.Rooms.{
-  unsigned_of,
-  number_in,
-  largest_identity,
-  sighting_in,
-  sightings_in,
-  guide_in,
-  guider_in,
-  with_guide,
-  with_guides,
-  with_guider,
-  listing_in,
-}
+use Rattle.c_interface.specs.guide.Rooms.{unsigned_of, number_in, largest_identity, sighting_in, sightings_in, guide_in, guider_in, with_guide, with_guides, with_guider, listing_in}
 use Rattle.c_interface.specs.guide.RoomLaws.{length-guides, stands}
 use Rattle.c_interface.specs.guide.Guider.{started_in, start_room, start_outcome, framed_in, gone, framed_room, taken, frame_room}
 use Rattle.c_interface.specs.guide.ReadLaws.{signed_back, Small, guide_by, room_at}
+use Rattle.std.specs.Prelude.{Result, Ok, Err}
+use Rattle.refusal.specs.declared.Refusal.{Refusal}
 
 guide-by : (room : List ℤ) (at : ℕ) → guide_in room at ≡ guide_by (get_or room at (pos 0)) (get_or room (at + 1) (pos 0)) (get_or room (at + 2) (pos 0))
     (get_or room (at + 3) (pos 0))
@@ -229,30 +216,30 @@ module _ (half : ℤ) (stars room : List ℤ) (fits : length room ≡ 18) where
       by (suc (suc (suc (suc i)))) h d = absurd (omega arith)
 
   -- what an accepted start leaves in the room is read as the guider that the rule gives
-  pub start-read : start_outcome half stars room ≡ Accepted → guider_in (start_room half stars room) ≡ (started_in half stars).guider
+  pub start-read : start_outcome half stars room ≡ Ok tt → guider_in (start_room half stars room) ≡ (started_in half stars).guider
   unfolding start_outcome start_room started_in started_of
   start-read e = by (eqb (length stars % 3) 0) refl (guider_ok fresh) refl e
     where
-      by : (t : Bool) → eqb (length stars % 3) 0 ≡ t → (u : Bool) → guider_ok fresh ≡ u → start_outcome half stars room ≡ Accepted
+      by : (t : Bool) → eqb (length stars % 3) 0 ≡ t → (u : Bool) → guider_ok fresh ≡ u → start_outcome half stars room ≡ Ok tt
           → guider_in (start_room half stars room) ≡ (started_in half stars).guider
-      by false a u b k = let z : refusal_of number.guider 0 ≡ Accepted = rw (fits, a) at k in contradiction (cc)
-      by true a false b k = let z : refusal_of number.guider 0 ≡ Accepted = rw (fits, a, b) at k in contradiction (cc)
+      by false a u b k = let z : refusal_of number.guider 0 ≡ (Ok tt) = rw (fits, a) at k in contradiction (cc)
+      by true a false b k = let z : refusal_of number.guider 0 ≡ (Ok tt) = rw (fits, a, b) at k in contradiction (cc)
       by true a true b k =
           rw (fits, a, b)
           (guider-back fresh room (omega arith) refl (omega (arith, (guider-keeps fresh b).narrow)) (omega (arith, (guider-keeps fresh b).few))
           (fresh-small b (eqb-true (length stars % 3) 0 a)))
 
 -- a call of the guider is accepted, and its guider kept the rule; or it is refused, and hands back the guider
-settled : (g : Guider) (l : Listing) → (((guided_of g l).outcome ≡ Accepted) × (guider_ok g ≡ true)) ⊎ (guided_of g l ≡ refused_with g)
+settled : (g : Guider) (l : Listing) → (((guided_of g l).outcome ≡ Ok tt) × (guider_ok g ≡ true)) ⊎ (guided_of g l ≡ refused_with g)
 unfolding guided_of
 settled g l = by (guider_ok g) refl l.outcome refl (list_ok l.report) refl
   where
-    by : (t : Bool) → guider_ok g ≡ t → (o : Outcome) → l.outcome ≡ o → (u : Bool) → list_ok l.report ≡ u
-        → (((guided_of g l).outcome ≡ Accepted) × (guider_ok g ≡ true)) ⊎ (guided_of g l ≡ refused_with g)
+    by : (t : Bool) → guider_ok g ≡ t → (o : Result Unit Refusal) → l.outcome ≡ o → (u : Bool) → list_ok l.report ≡ u
+        → (((guided_of g l).outcome ≡ Ok tt) × (guider_ok g ≡ true)) ⊎ (guided_of g l ≡ refused_with g)
     by false e o f u q = inr (rw e refl)
-    by true e (Refused x) f u q = inl (rw (e, f) refl, e)
-    by true e Accepted f true q = inl (rw (e, f, q) refl, e)
-    by true e Accepted f false q = inr (rw (e, f, q) refl)
+    by true e (Err x) f u q = inl (rw (e, f) refl, e)
+    by true e (Ok _) f true q = inl (rw (e, f, q) refl, e)
+    by true e (Ok _) f false q = inr (rw (e, f, q) refl)
 
 -- every call leaves the half-width, the identities, and the guides behind the count
 module _ (g : Guider) (l : Listing) where
@@ -313,7 +300,7 @@ module _ (room : List ℤ) (l : Listing) (fits : length room ≡ 18) where
   -- what a frame leaves in the room is read as the guider that the rule gives
   room_after : guider_in (framed_room (guided_of before l) room) ≡ after
   room_after = ⊎_elim
-      (λ (a : ((guided_of before l).outcome ≡ Accepted) × (guider_ok before ≡ true)). ap (λ (o : Outcome). guider_in (gone after room o)) a.0
+      (λ (a : ((guided_of before l).outcome ≡ Ok tt) × (guider_ok before ≡ true)). ap (λ (o : Result Unit Refusal). guider_in (gone after room o)) a.0
       ∙ written_back a.1)
       (λ (r : guided_of before l ≡ refused_with before). ap (λ (x : Guided). guider_in (framed_room x room)) r ∙ sym (ap (λ (x : Guided). x.guider) r))
       (settled before l)
@@ -327,10 +314,10 @@ pub frame-length : (room list : List ℤ) → length (frame_room room list) ≡ 
 unfolding frame_room framed_in
 frame-length room list = by (taken room list) (framed_in room list).outcome
   where
-    by : (t : Bool) (o : Outcome) → length (cond t (gone (guided_of (guider_in room) (listing_in list)).guider room o) room) ≡ length room
+    by : (t : Bool) (o : Result Unit Refusal) → length (cond t (gone (guided_of (guider_in room) (listing_in list)).guider room o) room) ≡ length room
     by false o = refl
-    by true (Refused q) = refl
-    by true Accepted = length-guides _ _ room
+    by true (Err q) = refl
+    by true (Ok _) = length-guides _ _ room
 
 module _ (room : List ℤ) (lists : ℕ → List ℤ) (fits : length room ≡ 18) (full : (k : ℕ) → length (lists k) ≡ 64) where
   room-length : (n : ℕ) → length (room_at room lists n) ≡ 18

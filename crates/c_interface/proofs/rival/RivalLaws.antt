@@ -3,7 +3,6 @@ use Rattle.std.specs.Prelude.{Bool, true, false, ◌≡◌, List, [], ◌∷◌,
 use Rattle.std.proofs.Math.Path.{refl}
 use Rattle.std.proofs.Common.{sym, ap, ◌∙◌, subst, ⊎_elim, arith}
 use Rattle.std.proofs.Math.IntN.{pos}
-use Rattle.refusal.specs.declared.Outcome.TheVariants.{Accepted}
 use Rattle.camera_direction.specs.ListLaws.{directions_in}
 use Rattle.catalogue.specs.Format.{records_in}
 use Rattle.search.specs.declared.Identification.{Identification}
@@ -16,11 +15,12 @@ use Rattle.search_rival.specs.Contested.{refused_with, alone, Contested, contest
 use Rattle.search_rival.proofs.Answers.{computed-contested}
 use Rattle.c_numbers.specs.Room.{size, handed_over}
 use Rattle.c_numbers.specs.Stars.{joined}
-use Rattle.c_numbers.specs.Places.{own_place, names_place, read_at, refusal_in, words_at}
+use Rattle.c_numbers.specs.Places.{own_place, names_place, words_at}
 use Rattle.c_numbers.specs.PlaceLaws.{Named, read-handed, refusal-handed, words-handed}
 use Rattle.c_numbers.proofs.PlaceLaws.{words-read}
 use Rattle.c_interface.specs.rival.Rival.{rival_numbers}
 use Rattle.c_interface.specs.rival.RivalLaws.{contest_in}
+use Rattle.std.specs.Prelude.{Ok}
 
 module _ (directions : List ℤ) (bytes : List ℕ) (needed tolerance : ℕ) (words : List ℕ) (v : Call directions bytes needed tolerance words) where
   abbrev ours : Identification
@@ -40,13 +40,13 @@ module _ (directions : List ℤ) (bytes : List ℕ) (needed tolerance : ℕ) (wo
     pub full : length (rival_numbers (directions_in directions) stars r) ≡ size
     pub back : contest_in stars (rival_numbers (directions_in directions) stars r) ≡ r
 
-  found : (ws : List ℕ) → Named ws (directions_in directions) stars → Reads (record { outcome = Accepted; rival = true; stars = ws })
+  found : (ws : List ℕ) → Named ws (directions_in directions) stars → Reads (record { outcome = Ok tt; rival = true; stars = ws })
   unfolding joined
   found ws N =
-      let r : Contest = record { outcome = Accepted; rival = true; stars = ws } in
+      let r : Contest = record { outcome = Ok tt; rival = true; stars = ws } in
       let names : words_at stars (rival_numbers (directions_in directions) stars r) names_place ≡ ws
       = words-read ws (directions_in directions) stars N (pos 0 ∷ pos 0 ∷ pos 1 ∷ []) (replicate 53 (pos 0)) names_place refl in
-      record { full = refl; back = λ i. record { outcome = Accepted; rival = true; stars = names i } }
+      record { full = refl; back = λ i. record { outcome = Ok tt; rival = true; stars = names i } }
 
   nobody : Reads alone
   unfolding joined
@@ -58,14 +58,14 @@ module _ (directions : List ℤ) (bytes : List ℕ) (needed tolerance : ℕ) (wo
   refused_none : Reads (refused_with no_fit)
   refused_none = record { full = refl; back = refl }
 
-  judged : ours.outcome ≡ Accepted → Reads answer
+  judged : ours.outcome ≡ Ok tt → Reads answer
   judged e = by answer.rival refl
     where
       by : (b : Bool) → answer.rival ≡ b → Reads answer
       by false q = subst Reads (sym ((promised.judged e).none q)) nobody
       by true q =
           let j = promised.judged e in
-          let a : answer ≡ record { outcome = Accepted; rival = true; stars = answer.stars } = λ i.
+          let a : answer ≡ record { outcome = Ok tt; rival = true; stars = answer.stars } = λ i.
           record { outcome = j.accepted i; rival = q i; stars = answer.stars } in
           subst Reads (sym a)
           (found answer.stars (record {

@@ -1,9 +1,10 @@
 -- The numbers of a position's direction: x, y and z. Assumes nothing.
 use Rattle.std.specs.Prelude.{List, ℤ}
-use Rattle.camera_direction.specs.declared.Direction.{Direction}
-use Rattle.camera_direction.specs.declared.Direction.TheVariants.{Refused, Found}
 use Rattle.c_numbers.specs.Numbers.{refused_numbers, accepted_numbers, vector_numbers}
+use Rattle.std.specs.Prelude.{Result, Ok, Err}
+use Rattle.refusal.specs.declared.Refusal.{Refusal}
+use Rattle.vectors.specs.declared.Vec3.{Vec3}
 
-abbrev pub direction_numbers : Direction → List ℤ
-direction_numbers (Refused r) = refused_numbers r
-direction_numbers (Found v) = accepted_numbers (vector_numbers v)
+abbrev pub direction_numbers : Result Vec3 Refusal → List ℤ
+direction_numbers (Err r) = refused_numbers r
+direction_numbers (Ok v) = accepted_numbers (vector_numbers v)

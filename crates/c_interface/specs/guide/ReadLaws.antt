@@ -1,48 +1,14 @@
 -- Reading back what was written gives the guider, so what the rule says of a guider it says of the numbers that a caller keeps. Assumes nothing.
-use Rattle.std.specs.Prelude.{Bool, cond, ◌≡◌, List, [], ◌∷◌, ◌⊎◌, ltb, ℤ, pos, length, get_or, set}
-use Rattle.std.proofs.Math.Bool.{true, false}
-use Rattle.std.proofs.Math.Path.{refl, ap}
-use Rattle.std.proofs.Common.{sym, subst, ◌∙◌, inl, inr, ⊎_elim, lt-ltb, le-ltb, ltb-false, eqb-true, length-set, ext_get_or, get_or-set_same, get_or-set_other}
-use Prim.Native.Nat.{ℕ, zero, suc, ◌+◌, ◌*◌, ◌/◌, ◌%◌, ◌≤◌, ◌<◌}
-use Rattle.std.proofs.Math.Decide.{dec_lt, ℕ_discrete}
+use Rattle.std.specs.Prelude.{cond, ◌≡◌, List, ltb, ℤ, pos}
+use Rattle.std.proofs.Math.Bool.{false}
+use Rattle.std.proofs.Common.{lt-ltb, le-ltb}
+use Prim.Native.Nat.{ℕ, zero, suc, ◌≤◌, ◌<◌}
 use native.Mathlib.Omega.{arith}
-use Rattle.std.proofs.Math.Dec.{eqb}
-use Rattle.std.proofs.Math.ListN.{get_or-eq_default}
 use Rattle.std.specs.Int.Signed.{lt_z}
-use Rattle.lists.specs.Contradiction.{contradiction}
-use Rattle.refusal.specs.declared.Outcome.{Outcome}
-use Rattle.refusal.specs.declared.Outcome.TheVariants.{Accepted, Refused}
-use Rattle.refusal.specs.Numbers as number
-use Rattle.refusal.specs.Table.{refusal_of}
-use Rattle.frame_list.specs.declared.Listing.{Listing}
 use Rattle.numbers.specs.TwosComplement.{signed_of}
 use Rattle.guider_rule.specs.declared.Guide.{Guide}
-use Rattle.guider_rule.specs.declared.Guider.{Guider}
-use Rattle.guider_rule.specs.declared.Guided.{Guided}
-use Rattle.guider_rule.specs.Guider.{no_guide, guide_at, guider_after}
-use Rattle.guider_rule.specs.Rule.{guider_ok, list_ok}
-use Rattle.guider_rule.specs.RuleLaws.{GuiderRule}
-use Rattle.guider_rule.proofs.RuleLaws.{guider-keeps}
-use Rattle.guider_rule.specs.Calls.{no_sighting, fresh_guide, fresh_of, started_of, refused_with, guided_of}
-use Rattle.guider_rule.proofs.FollowLaws.{follower, misser, stayer, fates}
-use Rattle.guider_rule.specs.AfterLaws.{Whole}
-use Rattle.guider_rule.proofs.AfterLaws.{guide-after, guide-behind, handed, rule-kept, whole-kept, count_kept}
-use Rattle.guider_rule.specs.ChainLaws.{guider_at}
-use Rattle.c_interface.specs.guide.Rooms.{
-  unsigned_of,
-  number_in,
-  largest_identity,
-  sighting_in,
-  sightings_in,
-  guide_in,
-  guider_in,
-  with_guide,
-  with_guides,
-  with_guider,
-  listing_in,
-}
-use Rattle.c_interface.specs.guide.RoomLaws.{length-guides, stands}
-use Rattle.c_interface.specs.guide.Guider.{started_in, start_room, start_outcome, framed_in, gone, framed_room, taken, frame_room}
+use Rattle.c_interface.specs.guide.Rooms.{unsigned_of, largest_identity}
+use Rattle.c_interface.specs.guide.Guider.{frame_room}
 
 -- a number of 63 bits is read as itself
 pub signed_back : (n : ℕ) → n ≤ 9223372036854775807 → unsigned_of (signed_of n) ≡ n

@@ -1,8 +1,6 @@
 -- The guider as numbers in a room, and a frame's list as the numbers that its own call hands over. Assumes nothing.
 use Rattle.std.specs.Prelude.{cond, List, [], ◌∷◌, ℕ, zero, suc, ◌+◌, ◌*◌, eqb, ltb, ℤ, pos, nat_abs, get_or, set}
 use Rattle.std.specs.Int.Signed.{lt_z}
-use Rattle.refusal.specs.declared.Outcome.{Outcome}
-use Rattle.refusal.specs.declared.Outcome.TheVariants.{Accepted}
 use Rattle.refusal.specs.Table.{refusal_of}
 use Rattle.refusal.specs.Numbers as refusals
 use Rattle.frame_centroid.specs.declared.Centroid.{Centroid}
@@ -13,6 +11,8 @@ use Rattle.guider_rule.specs.declared.Guide.{Guide}
 use Rattle.guider_rule.specs.declared.Sighting.{Sighting}
 use Rattle.guider_rule.specs.declared.Guider.{Guider}
 use Rattle.guider_rule.specs.Guider.{no_guide}
+use Rattle.std.specs.Prelude.{Result, Ok}
+use Rattle.refusal.specs.declared.Refusal.{Refusal}
 
 -- how many numbers a guider has
 abbrev pub size : ℕ
@@ -87,8 +87,8 @@ report_in list =
     }
 
 -- and neither has the number of a frame's refusal
-abbrev pub outcome_in : ℕ → Outcome
-outcome_in n = cond (eqb n 0) Accepted (refusal_of refusals.size 0)
+abbrev pub outcome_in : ℕ → Result Unit Refusal
+outcome_in n = cond (eqb n 0) (Ok tt) (refusal_of refusals.size 0)
 
 abbrev pub listing_in : List ℤ → Listing
 listing_in list = record { outcome = outcome_in (number_in list 0); report = report_in list }

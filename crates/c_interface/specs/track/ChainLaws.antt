@@ -1,12 +1,10 @@
 -- What a caller of the chain reads from the numbers, and demand 3 in them. Assumes nothing.
-use Rattle.std.specs.Prelude.{true, ◌≡◌, ℕ, ◌+◌, ◌≤◌, ◌<◌, ℤ, pos, nat_abs}
+use Rattle.std.specs.Prelude.{true, ◌≡◌, ℕ, ◌≤◌, ◌<◌, ℤ, pos, nat_abs}
 use Rattle.std.proofs.Math.Path.{refl, ap}
 use Rattle.std.proofs.Common.{sym, ◌∙◌, subst, arith, lt-ltb}
-use mathlib.Core.List.{List, [], ◌∷◌, ◌++◌}
+use mathlib.Core.List.{List, ◌∷◌, ◌++◌}
 use Rattle.std.proofs.Math.ListN.{length, replicate}
 use Rattle.refusal.specs.declared.Refusal.{Refusal}
-use Rattle.refusal.specs.declared.Outcome.{Outcome}
-use Rattle.refusal.specs.declared.Outcome.TheVariants.{Accepted, Refused}
 use Rattle.refusal.specs.Numbers as number
 use Rattle.camera_direction.specs.ListLaws.{directions_in}
 use Rattle.catalogue.specs.Format.{records_in}
@@ -14,20 +12,20 @@ use Rattle.search_theory.specs.Order.{Ranking, FirstOf}
 use Rattle.search_fit.specs.Fit.{ranking_of}
 use Rattle.search.specs.Answered.{FitsCall}
 use Rattle.chain.specs.declared.Tracked.{Tracked}
-use Rattle.chain.specs.Chain.{Call, listed, sights_of, our_ranking, tracked_of}
+use Rattle.chain.specs.Chain.{Call, listed, sights_of, our_ranking}
 use Rattle.chain.specs.Ready.{Tracks}
 use Rattle.chain.specs.NamesLaws.{Whole, Numbered}
-use Rattle.chain.proofs.NamesLaws.{tracked-names, tracked-whole, tracked-numbered}
 use Rattle.c_numbers.specs.Room.{size, handed_over}
 use Rattle.numbers.specs.TwosComplement.{signed_of}
 use Rattle.c_numbers.specs.Numbers.{refused_numbers, accepted_numbers, outcome_numbers}
-use Rattle.c_numbers.specs.Stars.{joined, name_at, names_numbers}
+use Rattle.c_numbers.specs.Stars.{joined, names_numbers}
 use Rattle.c_numbers.specs.Matrix.{matrix_numbers}
 use Rattle.c_numbers.specs.Places.{number_place, own_place, chain_names_place, chain_matrix_place, read_at, matrix_at, words_at}
 use Rattle.c_numbers.specs.PlaceLaws.{Named, read-handed, words-handed}
 use Rattle.c_numbers.proofs.PlaceLaws.{words-read}
 use Rattle.c_interface.specs.frame.Frame.{report_numbers}
 use Rattle.c_interface.specs.track.Chain.{chain_numbers}
+use Rattle.std.specs.Prelude.{Result, Ok, Err}
 
 -- an assignment that fits the directions of the frame's list, and the order of their own ranking
 abbrev pub FitsFrame : Call → List ℕ → Type 0
@@ -44,10 +42,10 @@ pub record Told (c : Call) (xs : List ℤ) : Type 0 where
 
 -- ---- place by place
 
-module _ (stars : ℕ) (t : Tracked) (e : t.outcome ≡ Accepted) where
+module _ (stars : ℕ) (t : Tracked) (e : t.outcome ≡ Ok tt) where
   accepted-numbers : chain_numbers stars t
       ≡ accepted_numbers (report_numbers t.report ++ (names_numbers t.stars t.report.count stars ++ matrix_numbers t.matrix))
-  accepted-numbers = ap (λ (o : Outcome). outcome_numbers o (accepted_numbers
+  accepted-numbers = ap (λ (o : Result Unit Refusal). outcome_numbers o (accepted_numbers
       (report_numbers t.report ++ (names_numbers t.stars t.report.count stars ++ matrix_numbers t.matrix)))) e
 
   -- number 2 is how many directions there are
@@ -77,7 +75,7 @@ small-number : (n : ℕ) → n ≤ 23 → signed_of n ≡ pos n
 small-number n h = let l : n < 9223372036854775808 = omega arith in rw (lt-ltb n 9223372036854775808 l)
 
 -- of any answer that keeps it
-module _ (c : Call) (t : Tracked) (names : Tracks c t) (numbered : (q : Refusal) → t.outcome ≡ Refused q → Numbered q) (whole : t.outcome ≡ Accepted
+module _ (c : Call) (t : Tracked) (names : Tracks c t) (numbered : (q : Refusal) → t.outcome ≡ Err q → Numbered q) (whole : t.outcome ≡ Ok tt
     → Whole c t) (room : List ℤ) (long : size ≤ length room) where
   abbrev stars : ℕ
   stars = records_in c.catalogue
@@ -85,7 +83,7 @@ module _ (c : Call) (t : Tracked) (names : Tracks c t) (numbered : (q : Refusal)
   abbrev numbers : List ℤ
   numbers = chain_numbers stars t
 
-  named : (e : t.outcome ≡ Accepted) → Named t.stars t.report.count stars
+  named : (e : t.outcome ≡ Ok tt) → Named t.stars t.report.count stars
   named e =
       let w = whole e in
       let f = (names.first e).fits refl in
@@ -95,8 +93,8 @@ module _ (c : Call) (t : Tracked) (names : Tracks c t) (numbered : (q : Refusal)
   pub told : Told c (handed_over numbers room)
   told = by t.outcome refl
     where
-      by : (o : Outcome) → t.outcome ≡ o → Told c (handed_over numbers room)
-      by Accepted e =
+      by : (o : Result Unit Refusal) → t.outcome ≡ o → Told c (handed_over numbers room)
+      by (Ok _) e =
           let full = accepted-full stars t e in
           let words = words-handed numbers room full long stars chain_names_place (omega arith) ∙ names-read stars t e (named e) in
           record {
@@ -107,8 +105,8 @@ module _ (c : Call) (t : Tracked) (names : Tracks c t) (numbered : (q : Refusal)
                   ∙ sym (read-handed numbers room full long number_place (omega arith)) ∙ h),
             ));
           }
-      by (Refused q) e =
-          let r : numbers ≡ refused_numbers q = ap (λ (o : Outcome). outcome_numbers o
+      by (Err q) e =
+          let r : numbers ≡ refused_numbers q = ap (λ (o : Result Unit Refusal). outcome_numbers o
           (accepted_numbers (report_numbers t.report ++ (names_numbers t.stars t.report.count stars ++ matrix_numbers t.matrix)))) e in
           let k = numbered q e in
           let head : read_at (handed_over numbers room) number_place ≡ pos q.number

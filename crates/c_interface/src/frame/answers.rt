@@ -7,10 +7,11 @@ ghost use Rattle.c_interface.specs.frame.Reason.{reason_numbers, explanation_num
 
 use c_numbers::{of_outcome, of_refusal, put_star, put_stars};
 use frame_centroid::Centroid;
-use frame_list::{Judgement, Listing, Report};
-use frame_reason::{Explanation, Reason};
+use frame_list::{Listing, Report};
+use frame_reason::Reason;
 use frame_verdict::{Kind, Verdict};
 use numbers::signed;
+use refusal::Refusal;
 
 // Where the numbers of a verdict stand, of a reason, and of a frame's list before its stars.
 const ROW: usize = 2;
@@ -52,10 +53,7 @@ fn centroid_in(kind: Kind) -> Centroid
     ensures { result ≡ centroid_in kind }
 {
     match kind {
-        Kind::Dark => nought(),
-        Kind::Beaten => nought(),
-        Kind::Edge => nought(),
-        Kind::Lone => nought(),
+        Kind::Dark | Kind::Beaten | Kind::Edge | Kind::Lone => nought(),
         Kind::Measured(centroid) => centroid,
     }
 }
@@ -63,61 +61,53 @@ fn centroid_in(kind: Kind) -> Centroid
 fn of_judged(verdict: Verdict) -> [i64; 64]
     ensures { result ≡ judged_numbers verdict }
 {
-    let kind = verdict.kind;
-    let mut flat = [0i64; 64];
+    let mut flat = [0; 64];
     flat[ROW] = signed(verdict.row as u64);
     flat[COLUMN] = signed(verdict.column as u64);
-    flat[KIND] = signed(frame_verdict::kind_number(kind) as u64);
-    put_star(flat, CENTROID, centroid_in(kind))
+    flat[KIND] = signed(u64::from(frame_verdict::kind_number(verdict.kind)));
+    put_star(&mut flat, CENTROID, centroid_in(verdict.kind));
+    flat
 }
 
-pub(crate) fn of_verdict(judgement: Judgement) -> [i64; 64]
+pub(crate) fn of_verdict(judgement: Result<Verdict, Refusal>) -> [i64; 64]
     ensures { result ≡ verdict_numbers judgement }
 {
-    match judgement {
-        Judgement::Refused(refusal) => of_refusal(refusal),
-        Judgement::Judged(verdict) => of_judged(verdict),
-    }
+    judgement.map_or_else(of_refusal, of_judged)
 }
 
 fn of_reason(reason: Reason) -> [i64; 64]
     ensures { result ≡ reason_numbers reason }
 {
     let values = frame_reason::values_of(reason);
-    let mut flat = [0i64; 64];
-    flat[REASON] = signed(frame_reason::reason_number(reason) as u64);
+    let mut flat = [0; 64];
+    flat[REASON] = signed(u64::from(frame_reason::reason_number(reason)));
     flat[FIRST] = signed(values.first);
     flat[SECOND] = signed(values.second);
     flat[THIRD] = signed(values.third);
     flat
 }
 
-pub(crate) fn of_explanation(explanation: Explanation) -> [i64; 64]
+pub(crate) fn of_explanation(explanation: Result<Reason, Refusal>) -> [i64; 64]
     ensures { result ≡ explanation_numbers explanation }
 {
-    match explanation {
-        Explanation::Refused(refusal) => of_refusal(refusal),
-        Explanation::Given(reason) => of_reason(reason),
-    }
+    explanation.map_or_else(of_refusal, of_reason)
 }
 
 // A frame's list: how many stars it has, the three counts, and the stars.
 pub fn of_report(report: Report) -> [i64; 64]
     ensures { result ≡ accepted_numbers (report_numbers report) }
 {
-    let stars = report.stars;
-    let mut flat = [0i64; 64];
+    let mut flat = [0; 64];
     flat[COUNT] = signed(report.count as u64);
     flat[MEASURED] = signed(report.measured as u64);
     flat[EDGE] = signed(report.edge as u64);
     flat[LONE] = signed(report.lone as u64);
-    put_stars(flat, stars)
+    put_stars(&mut flat, report.stars);
+    flat
 }
 
 pub(crate) fn of_listing(listing: Listing) -> [i64; 64]
     ensures { result ≡ listing_numbers listing }
 {
-    let outcome = listing.outcome;
-    let report = listing.report;
-    of_outcome(outcome, of_report(report))
+    of_outcome(listing.outcome, of_report(listing.report))
 }

@@ -5,8 +5,9 @@ ghost use Rattle.c_interface.specs.gimbal.Rooms.{matrix_in, triple_at, cosines_i
 ghost use Rattle.c_interface.specs.gimbal.Cosines.{floats_of};
 
 use attitude::Matrix;
-use attitude_gimbal::{Cosines, Gimbal, Triple};
+use attitude_gimbal::{Cosines, Triple};
 use c_numbers::vector_at;
+use refusal::Refusal;
 
 pub(crate) fn matrix_in(entries: &[i64]) -> Matrix
     requires { 9 ≤ length entries.now }
@@ -47,11 +48,7 @@ fn put(room: &mut [f64], floats: &[f64])
     requires { length floats.now ≤ length room.old }
     ensures { room.new ≡ written floats.now room.old }
 {
-    let mut i: usize = 0;
-    while i < floats.len() {
-        room[i] = floats[i];
-        i += 1;
-    }
+    room[..floats.len()].copy_from_slice(floats);
 }
 
 pub(crate) fn put_triple(room: &mut [f64], t: Triple)
@@ -73,12 +70,11 @@ fn put_cosines(room: &mut [f64], c: Cosines)
 }
 
 // Puts the rows, where there are any.
-pub(crate) fn put_rows(room: &mut [f64], gimbal: Gimbal)
+pub(crate) fn put_rows(room: &mut [f64], gimbal: Result<Cosines, Refusal>)
     requires { 9 ≤ length room.old }
     ensures { room.new ≡ written (floats_of gimbal) room.old }
 {
-    match gimbal {
-        Gimbal::Refused(_) => {}
-        Gimbal::Rows(cosines) => put_cosines(room, cosines),
+    if let Ok(cosines) = gimbal {
+        put_cosines(room, cosines);
     }
 }

@@ -3,8 +3,9 @@ ghost use Rattle.std.specs.Prelude.{◌≡◌};
 ghost use Rattle.c_interface.specs.identify.Search.{search_numbers};
 ghost use Rattle.c_interface.specs.identify.Attitude.{attitude_numbers};
 
-use attitude::Attitude;
+use attitude::Matrix;
 use c_numbers::{NAMES, of_count, of_matrix, of_outcome, of_refusal, put_names};
+use refusal::Refusal;
 use search::Identification;
 
 pub(crate) fn of_search(
@@ -14,17 +15,13 @@ pub(crate) fn of_search(
 ) -> [i64; 64]
     ensures { result ≡ search_numbers directions stars identification }
 {
-    let outcome = identification.outcome;
-    let words = identification.stars;
-    let named = put_names(of_count(directions), NAMES, words, directions, stars);
-    of_outcome(outcome, named)
+    let mut flat = of_count(directions);
+    put_names(&mut flat, NAMES, identification.stars, directions, stars);
+    of_outcome(identification.outcome, flat)
 }
 
-pub(crate) fn of_attitude(attitude: Attitude) -> [i64; 64]
+pub(crate) fn of_attitude(attitude: Result<Matrix, Refusal>) -> [i64; 64]
     ensures { result ≡ attitude_numbers attitude }
 {
-    match attitude {
-        Attitude::Refused(refusal) => of_refusal(refusal),
-        Attitude::Found(matrix) => of_matrix(matrix),
-    }
+    attitude.map_or_else(of_refusal, of_matrix)
 }

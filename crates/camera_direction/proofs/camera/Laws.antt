@@ -4,14 +4,12 @@ use Rattle.std.proofs.Math.Bool.{not}
 use Rattle.std.proofs.Math.Path.{refl, ap}
 use Rattle.std.proofs.Common.{sym, ◌∙◌}
 use Rattle.lists.specs.Contradiction.{contradiction}
-use Rattle.refusal.specs.declared.Outcome.{Outcome}
 use Rattle.refusal.specs.Table.{first_applying, answered}
 use Rattle.refusal.proofs.Laws.{applying-here, applying-next}
 use Rattle.refusal.specs.AnswerLaws.{answer_by}
 use Rattle.refusal.proofs.AnswerLaws.{answered-by}
 use Rattle.vectors.specs.declared.Vec3.{Vec3}
 use Rattle.vectors.specs.Vectors.{Within3}
-use Rattle.camera_direction.specs.declared.Direction.TheVariants.{Refused, Found}
 use Rattle.camera_direction.specs.Settings.{Between}
 use Rattle.camera_direction.specs.SettingsLaws.{Position}
 use Rattle.camera_direction.specs.Position.{toward_of}
@@ -24,12 +22,14 @@ use Rattle.camera_lens.proofs.Laws.{focal-range}
 use Rattle.camera_lens.specs.Stated.{settings_lens}
 use Rattle.camera_lens.proofs.StatedLaws.{settings-ok, settings-number}
 use Rattle.camera_direction.specs.camera.Camera.{refusals_of, direction_of, lens_out, answer_for}
+use Rattle.std.specs.Prelude.{Result, Ok, Err}
+use Rattle.refusal.specs.declared.Refusal.{Refusal}
 
 module _ (cx cy : ℤ) (l : Lens) (x y : ℤ) where
-  given : {o : Outcome} → first_applying (refusals_of cx cy l x y) ≡ o → direction_of cx cy l x y
-      ≡ answered Refused (Found (toward_of (x -ℤ cx) (y -ℤ cy) (pos (focal_number l)))) o
+  given : {o : Result Unit Refusal} → first_applying (refusals_of cx cy l x y) ≡ o → direction_of cx cy l x y
+      ≡ answered Err (Ok (toward_of (x -ℤ cx) (y -ℤ cy) (pos (focal_number l)))) o
   unfolding direction_of
-  given e = ap (λ (o : Outcome). answered Refused (Found (toward_of (x -ℤ cx) (y -ℤ cy) (pos (focal_number l)))) o) e
+  given e = ap (λ (o : Result Unit Refusal). answered Err (Ok (toward_of (x -ℤ cx) (y -ℤ cy) (pos (focal_number l)))) o) e
 
   -- 19 comes first
   pub lens-out : lens_ok l ≡ false → direction_of cx cy l x y ≡ lens_out
@@ -43,21 +43,21 @@ module _ (cx cy : ℤ) (l : Lens) (x y : ℤ) where
 
   pub answers : direction_answer (direction_of cx cy l x y) ≡ answer_for cx cy l x y
   unfolding direction_of refusals_of answer_by
-  answers = answered-by Refused (Found (toward_of (x -ℤ cx) (y -ℤ cy) (pos (focal_number l)))) direction_answer _ (λ r. refl) refl (refusals_of cx cy l x y)
+  answers = answered-by Err (Ok (toward_of (x -ℤ cx) (y -ℤ cy) (pos (focal_number l)))) direction_answer _ (λ r. refl) refl (refusals_of cx cy l x y)
 
   -- ---- in plain terms
 
-  pub found : lens_ok l ≡ true → Position cx cy → Position x y → direction_of cx cy l x y ≡ Found (toward_of (x -ℤ cx) (y -ℤ cy) (pos (focal_number l)))
+  pub found : lens_ok l ≡ true → Position cx cy → Position x y → direction_of cx cy l x y ≡ Ok (toward_of (x -ℤ cx) (y -ℤ cy) (pos (focal_number l)))
   found e s p = by_whole e ∙ whole-laws.found cx cy (pos (focal_number l)) x y s p
 
   pub refused-5 : lens_ok l ≡ true → (Position cx cy → Position x y → ⊥) → direction_of cx cy l x y ≡ out_of_range
   refused-5 e n = by_whole e ∙ whole-laws.refused cx cy (pos (focal_number l)) x y n
 
-  pub found_within : (v : Vec3) → direction_of cx cy l x y ≡ Found v → Within3 1000000000 v
+  pub found_within : (v : Vec3) → direction_of cx cy l x y ≡ Ok v → Within3 1000000000 v
   found_within v h = go (lens_ok l) refl
     where
       go : (t : Bool) → lens_ok l ≡ t → Within3 1000000000 v
-      go false e = let d : lens_out ≡ Found v = sym (lens-out e) ∙ h in contradiction (cc)
+      go false e = let d : lens_out ≡ Ok v = sym (lens-out e) ∙ h in contradiction (cc)
       go true e = whole-laws.found_within cx cy (pos (focal_number l)) x y v (sym (by_whole e) ∙ h)
 
 -- the settings file's focal length gives the directions that it gave as a whole number

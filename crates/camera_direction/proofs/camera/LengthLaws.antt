@@ -5,8 +5,6 @@ use Rattle.std.proofs.Common.{sym, ◌∙◌, arith, lit≤}
 use Rattle.lists.specs.Contradiction.{contradiction}
 use Rattle.vectors.specs.declared.Vec3.{Vec3}
 use Rattle.vectors.specs.Unit.{NearlyUnit}
-use Rattle.camera_direction.specs.declared.Direction.{Direction}
-use Rattle.camera_direction.specs.declared.Direction.TheVariants.{Refused, Found}
 use Rattle.camera_direction.specs.Settings.{position_ok}
 use Rattle.camera_direction.specs.Position.{toward_of}
 use Rattle.camera_direction.specs.Direction as whole
@@ -18,8 +16,10 @@ use Rattle.camera_lens.specs.Lens.{lens_ok, focal_number}
 use Rattle.camera_lens.proofs.Laws.{focal-range}
 use Rattle.camera_direction.specs.camera.Camera.{direction_of, lens_out}
 use Rattle.camera_direction.proofs.camera.Laws.{lens-out, by_whole}
+use Rattle.std.specs.Prelude.{Ok}
+use Rattle.refusal.specs.declared.Refusal.{Refusal}
 
-module _ (cx cy : ℤ) (l : Lens) (x y : ℤ) (v : Vec3) (h : direction_of cx cy l x y ≡ Found v) where
+module _ (cx cy : ℤ) (l : Lens) (x y : ℤ) (v : Vec3) (h : direction_of cx cy l x y ≡ Ok v) where
   abbrev f : ℕ
   f = focal_number l
 
@@ -28,11 +28,11 @@ module _ (cx cy : ℤ) (l : Lens) (x y : ℤ) (v : Vec3) (h : direction_of cx cy
   found-toward = by (lens_ok l) (position_ok cx cy) (position_ok x y) refl refl refl
     where
       by : (t c p : Bool) → lens_ok l ≡ t → position_ok cx cy ≡ c → position_ok x y ≡ p → (lens_ok l ≡ true) × (v ≡ toward_of (x -ℤ cx) (y -ℤ cy) (pos f))
-      by false c p e g k = let d : lens_out ≡ Found v = sym (lens-out cx cy l x y e) ∙ h in contradiction (cc)
-      by true false p e g k = let d : out_of_range ≡ Found v = sym (by_whole cx cy l x y e ∙ centre-out cx cy (pos f) x y g) ∙ h in contradiction (cc)
-      by true true false e g k = let d : out_of_range ≡ Found v = sym (by_whole cx cy l x y e ∙ position-out cx cy (pos f) x y k) ∙ h in contradiction (cc)
+      by false c p e g k = let d : lens_out ≡ Ok v = sym (lens-out cx cy l x y e) ∙ h in contradiction (cc)
+      by true false p e g k = let d : out_of_range ≡ Ok v = sym (by_whole cx cy l x y e ∙ centre-out cx cy (pos f) x y g) ∙ h in contradiction (cc)
+      by true true false e g k = let d : out_of_range ≡ Ok v = sym (by_whole cx cy l x y e ∙ position-out cx cy (pos f) x y k) ∙ h in contradiction (cc)
       by true true true e g k =
-          let d : Found (toward_of (x -ℤ cx) (y -ℤ cy) (pos f)) ≡ Found v = sym (by_whole cx cy l x y e ∙ in-range cx cy (pos f) x y g k) ∙ h in
+          let d : Ok (toward_of (x -ℤ cx) (y -ℤ cy) (pos f)) ≡ Ok v = sym (by_whole cx cy l x y e ∙ in-range cx cy (pos f) x y g k) ∙ h in
           (e, cc)
 
   pub found-unit-by : (k : ℕ) → 4000000000 ≤ k → 7812500000000000 ≤ f * k → NearlyUnit k v

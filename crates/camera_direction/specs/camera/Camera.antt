@@ -4,23 +4,24 @@ use Rattle.std.specs.Prelude.{cond, not, ◌&&◌, List, [], ◌∷◌, ℤ, pos
 use Rattle.refusal.specs.Numbers as number
 use Rattle.refusal.specs.Table.{Row, row, first_applying, answered}
 use Rattle.refusal.specs.Answer.{Answer, refused_with, accepted_with}
-use Rattle.camera_direction.specs.declared.Direction.{Direction}
-use Rattle.camera_direction.specs.declared.Direction.TheVariants.{Refused, Found}
 use Rattle.camera_direction.specs.Settings.{position_ok}
 use Rattle.camera_direction.specs.Position.{toward_of}
 use Rattle.camera_direction.specs.Direction.{numbers_of}
 use Rattle.camera_lens.specs.declared.Lens.{Lens}
 use Rattle.camera_lens.specs.Lens.{lens_ok, focal_number}
+use Rattle.std.specs.Prelude.{Result, Ok, Err}
+use Rattle.refusal.specs.declared.Refusal.{Refusal}
+use Rattle.vectors.specs.declared.Vec3.{Vec3}
 
 -- 19, and then 5
 unfoldable pub refusals_of : ℤ → ℤ → Lens → ℤ → ℤ → List Row
 refusals_of cx cy l x y = row (not (lens_ok l)) number.lens ∷ row (not (position_ok cx cy && position_ok x y)) number.settings ∷ []
 
-unfoldable pub direction_of : ℤ → ℤ → Lens → ℤ → ℤ → Direction
-direction_of cx cy l x y = answered Refused (Found (toward_of (x -ℤ cx) (y -ℤ cy) (pos (focal_number l)))) (first_applying (refusals_of cx cy l x y))
+unfoldable pub direction_of : ℤ → ℤ → Lens → ℤ → ℤ → Result Vec3 Refusal
+direction_of cx cy l x y = answered Err (Ok (toward_of (x -ℤ cx) (y -ℤ cy) (pos (focal_number l)))) (first_applying (refusals_of cx cy l x y))
 
-abbrev pub lens_out : Direction
-lens_out = Refused (record { number = number.lens; place = 0 })
+abbrev pub lens_out : Result Vec3 Refusal
+lens_out = Err (record { number = number.lens; place = 0 })
 
 -- ---- in the documents' own terms: the answer that a centre, a lens and a position must have
 abbrev pub answer_for : ℤ → ℤ → Lens → ℤ → ℤ → Answer

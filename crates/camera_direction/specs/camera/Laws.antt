@@ -4,14 +4,12 @@ use Rattle.std.proofs.Math.Bool.{not}
 use Rattle.std.proofs.Math.Path.{refl, ap}
 use Rattle.std.proofs.Common.{sym, ◌∙◌}
 use Rattle.lists.specs.Contradiction.{contradiction}
-use Rattle.refusal.specs.declared.Outcome.{Outcome}
 use Rattle.refusal.specs.Table.{first_applying, answered}
 use Rattle.refusal.proofs.Laws.{applying-here, applying-next}
 use Rattle.refusal.specs.AnswerLaws.{answer_by}
 use Rattle.refusal.proofs.AnswerLaws.{answered-by}
 use Rattle.vectors.specs.declared.Vec3.{Vec3}
 use Rattle.vectors.specs.Vectors.{Within3}
-use Rattle.camera_direction.specs.declared.Direction.TheVariants.{Refused, Found}
 use Rattle.camera_direction.specs.Settings.{Between}
 use Rattle.camera_direction.specs.SettingsLaws.{Position}
 use Rattle.camera_direction.specs.Position.{toward_of}
@@ -23,6 +21,7 @@ use Rattle.camera_lens.proofs.Laws.{focal-range}
 use Rattle.camera_lens.specs.Stated.{settings_lens}
 use Rattle.camera_lens.proofs.StatedLaws.{settings-ok, settings-number}
 use Rattle.camera_direction.specs.camera.Camera.{refusals_of, direction_of, lens_out, answer_for}
+use Rattle.refusal.specs.declared.Refusal.{Refusal}
 
 -- the focal length of a lens that is not refused is one that a direction may be asked for
 pub focal-between : (l : Lens) → lens_ok l ≡ true → Between 16384 4194304 (pos (focal_number l))

@@ -1,8 +1,8 @@
 -- The marks at the end: a record is kept exactly where its mark is 0. Assumes nothing.
-use Rattle.std.specs.Prelude.{Bool, true, false, ◌≡◌, refl, List, ℕ, ◌≤◌, ◌<◌, T, eqb, ℤ, get_or, ◌≤ℤ◌}
+use Rattle.std.specs.Prelude.{◌≡◌, List, ℕ, ◌<◌, eqb, ℤ, get_or}
 use Rattle.std.proofs.Common.{sym, ap, subst, ◌∙◌, arith, eq-eqb, ne_eqb}
 use Rattle.std.specs.Int.Signed.{le_z}
-use Rattle.vectors.specs.Triples.{triples, Listed, pair_dot}
+use Rattle.vectors.specs.Triples.{triples, Listed}
 use Rattle.catalogue.specs.Format.{records_in}
 use Rattle.catalogue.specs.Stars.{stars_of}
 use Rattle.catalogue.specs.Valid.{Valid}

@@ -1,9 +1,9 @@
 -- How the marks grow, a pair at a time, and what they say at the end. Assumes nothing.
-use Rattle.std.specs.Prelude.{Bool, true, cond, not, ◌&&◌, ◌≡◌, refl, List, ℕ, suc, ◌+◌, ◌≤◌, ◌<◌, eqb, ℤ, length, get_or, set}
+use Rattle.std.specs.Prelude.{Bool, true, not, ◌≡◌, refl, List, ℕ, ◌+◌, ◌<◌, eqb, ℤ, length, get_or, set}
 use Rattle.std.proofs.Math.Bool.{false, and-eq-true_iff}
-use Rattle.std.proofs.Common.{sym, subst, ◌∙◌, not-suc-le-zero, arith, eqb-true, eq-eqb, ne_eqb, get_or-set_same, get_or-set_other}
+use Rattle.std.proofs.Common.{sym, subst, ◌∙◌, not-suc-le-zero, arith, ne_eqb, get_or-set_same, get_or-set_other}
 use Rattle.std.proofs.Math.Path.{ap}
-use Rattle.std.proofs.Math.Decide.{dec_lt, ℕ_discrete}
+use Rattle.std.proofs.Math.Decide.{ℕ_discrete}
 use Rattle.std.proofs.lemmas.Bool.{eqb-false, not-true}
 use Rattle.std.specs.Int.Signed.{le_z}
 use Rattle.lists.specs.Contradiction.{contradiction}

@@ -1,6 +1,6 @@
 -- The keys that are read from bytes, and that the bytes are those of these keys. Assumes nothing.
 use Rattle.std.specs.Prelude.{◌≡◌, ℕ, zero, suc, ◌+◌, ◌*◌, ◌/◌, ◌%◌, ◌<◌, ◌≤◌, List, [], ◌∷◌, ◌++◌, length, take, drop, slice_index, refl}
-use Rattle.std.proofs.Common.{sym, ap, ◌∙◌, append-nil, append_assoc, not-suc-le-zero, arith, length-append, take-add, drop-drop, take_all}
+use Rattle.std.proofs.Common.{sym, ap, ◌∙◌, append-nil, not-suc-le-zero, arith, length-append, take-add, drop-drop, take_all}
 use Rattle.std.proofs.Math.Decide.{ℕ_discrete}
 use Rattle.std.proofs.Math.ListN.{get_or-append}
 use Rattle.std.proofs.lemmas.List.{get_or_at}
@@ -9,7 +9,7 @@ use Rattle.words.specs.NumberLaws.{number-most}
 use Rattle.words.specs.Bytes.{bytes_of}
 use Rattle.words.specs.BytesLaws.{write-back}
 use Rattle.catalogue_index.specs.records.Format.{turned, high_at, low_at, key_from, key_at, record_of, encoded}
-use Rattle.catalogue_index.specs.records.FormatLaws.{turned-back}
+use Rattle.catalogue_index.specs.records.FormatLaws.{turned-back, encoded-append}
 
 -- the keys of the first n records
 unfoldable pub keys_in : ℕ → List ℕ → List ℕ
@@ -58,11 +58,6 @@ record-bytes bytes i b h =
     (λ j. bytes_of 8 (p j) ++ bytes_of 4 (key-low (turned v) w n j))
     ∙ (λ j. write-back bytes (12 * i) 8 b (omega arith) j ++ write-back bytes (12 * i + 8) 4 b (omega arith) j)
     ∙ sym (take-add 8 4 (drop (12 * i) bytes) ∙ ap (λ (l : List ℕ). take 8 (drop (12 * i) bytes) ++ take 4 l) (drop-drop 8 (12 * i) bytes))
-
-encoded-append : (xs ys : List ℕ) → encoded (xs ++ ys) ≡ encoded xs ++ encoded ys
-unfolding encoded
-encoded-append [] ys = refl
-encoded-append (x ∷ xs) ys = rw (encoded-append xs ys, append_assoc)
 
 encoded-one : (k : ℕ) → encoded (k ∷ []) ≡ record_of k
 unfolding encoded

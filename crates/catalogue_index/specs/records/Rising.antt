@@ -1,9 +1,7 @@
 -- Strictly rising lists: each number stands once, and a list is known by what stands in it. Assumes nothing.
-use Rattle.std.specs.Prelude.{◌≡◌, ℕ, zero, suc, ◌+◌, ◌<◌, ◌≤◌, Bool, true, false, List, [], ◌∷◌, ◌++◌, length, ◌≢◌, slice_index, slice_index_or, refl}
-use Rattle.std.proofs.Common.{sym, ap, subst, ◌∙◌, not-suc-le-zero, arith, eqb-true, eq-eqb, ne_eqb}
+use Rattle.std.specs.Prelude.{◌≡◌, ℕ, zero, suc, ◌+◌, ◌<◌, ◌≤◌, List, [], ◌∷◌, ◌++◌, length, ◌≢◌, slice_index, slice_index_or, refl}
+use Rattle.std.proofs.Common.{sym, not-suc-le-zero, arith, eq-eqb, ne_eqb}
 use Rattle.std.proofs.Math.Decide.{ℕ_discrete}
-use Rattle.std.proofs.lemmas.Bool.{eqb-false}
-use Rattle.lists.specs.Number.{one}
 use Rattle.lists.specs.Laws.{count, All, all_map}
 use Rattle.catalogue_index.specs.records.OrderLaws.{Sorted, all-at}
 

@@ -3,7 +3,6 @@
 use Rattle.std.specs.Prelude.{◌≡◌, List, ℕ}
 use Rattle.std.proofs.Common.{ap}
 use Rattle.refusal.specs.declared.Refusal.{Refusal}
-use Rattle.refusal.specs.declared.Outcome.TheVariants.{Accepted, Refused}
 use Rattle.refusal.specs.Table.{first_applying, answered}
 use Rattle.frame_list.specs.declared.Report.{Report}
 use Rattle.chain.specs.declared.Settings.{Settings}
@@ -12,6 +11,7 @@ use Rattle.search_rival.specs.declared.Contest.{Contest}
 use Rattle.search_rival.specs.Contested.{refused_with, Contested}
 use Rattle.search_rival.proofs.Answers.{computed-contested}
 use Rattle.chain.specs.rival.Chain.{our_contest, contested_of}
+use Rattle.std.specs.Prelude.{Ok, Err}
 
 -- a report's directions over our ranking
 abbrev pub ContestedHere : Report → List ℕ → Settings → Contest → Type 0
@@ -19,8 +19,8 @@ ContestedHere report bytes s = Contested (sights_of report bytes s) bytes s.need
 
 -- refused as the chain is before it ranks; else the rivals of what the search finds for the frame's directions
 pub record Contests (c : Call) (r : Contest) : Type 0 where
-  pub refused : (q : Refusal) → first_applying (refusals_of c) ≡ Refused q → r ≡ refused_with q
-  pub contested : first_applying (refusals_of c) ≡ Accepted → ContestedHere (listed c).report c.catalogue c.settings r
+  pub refused : (q : Refusal) → first_applying (refusals_of c) ≡ Err q → r ≡ refused_with q
+  pub contested : first_applying (refusals_of c) ≡ Ok tt → ContestedHere (listed c).report c.catalogue c.settings r
 
 pub our-contested : (report : Report) (bytes : List ℕ) (s : Settings) → ContestedHere report bytes s (our_contest report bytes s)
 unfolding our_contest

@@ -1,21 +1,19 @@
 -- A record's bytes are 80, and what is read from them is what was written. Assumes nothing.
-use Rattle.std.specs.Prelude.{◌≡◌, refl, true, false, List, [], ◌∷◌, ◌++◌, ℕ, zero, suc, ◌+◌, ◌-◌, ◌*◌, ◌≤◌, ◌<◌, ℤ, pos, negsuc, nat_abs, length, get_or}
-use Rattle.std.proofs.Common.{sym, ◌∙◌, append_assoc, append-nil, not-suc-le-zero, ltb-true, length-append}
+use Rattle.std.specs.Prelude.{◌≡◌, refl, true, false, List, [], ◌∷◌, ◌++◌, ℕ, ◌+◌, ◌-◌, ◌*◌, ◌≤◌, ℤ, pos, negsuc, nat_abs, length}
+use Rattle.std.proofs.Common.{sym, ◌∙◌, append_assoc, append-nil, ltb-true, length-append}
 use Rattle.std.proofs.Math.Path.{ap}
 use native.Mathlib.Omega.{arith}
 use Rattle.std.proofs.lemmas.List.Edits.{sets}
 use Rattle.std.specs.Int.Signed.{lt_z}
 use mir.Syntax.{w64}
-use mir.Val.{to_z, of_z}
-use mir.ValLaws.{to_z-of_z, of_z_fits}
-use Rattle.words.specs.Number.{number_at}
+use mir.Val.{of_z}
 use Rattle.words.specs.Bytes.{bytes_of}
-use Rattle.words.specs.BytesLaws.{bytes-length, number-front, number_behind, sets-append}
+use Rattle.words.specs.BytesLaws.{bytes-length, sets-append}
 use Rattle.lists.specs.Contradiction.{contradiction}
 use Rattle.vectors.specs.declared.Vec3.{Vec3}
 use Rattle.attitude.specs.declared.Matrix.{Matrix}
 use Rattle.attitude.specs.Attitude.{entries_of}
-use Rattle.chain_burst.specs.records.Record.{Record, record3, signed_bytes, encoded, entry_in, decoded, AllSigned, Holds}
+use Rattle.chain_burst.specs.records.Record.{Record, record3, signed_bytes, encoded}
 
 -- ---- lengths
 

@@ -5,11 +5,11 @@ use Rattle.std.specs.Int.{w64}
 use Rattle.std.proofs.Common.{SFits, to_z, of_z}
 use Rattle.words.specs.Number.{number_at}
 use Rattle.words.specs.Bytes.{bytes_of}
-use Rattle.refusal.specs.declared.Outcome.{Outcome}
-use Rattle.refusal.specs.declared.Outcome.TheVariants.{Accepted, Refused}
 use Rattle.vectors.specs.declared.Vec3.{Vec3}
 use Rattle.attitude.specs.declared.Matrix.{Matrix}
 use Rattle.attitude.specs.Attitude.{entries_of}
+use Rattle.std.specs.Prelude.{Result, Ok, Err}
+use Rattle.refusal.specs.declared.Refusal.{Refusal}
 
 -- how many bytes a record has
 abbrev pub record_size : ℕ
@@ -32,9 +32,9 @@ abbrev pub no_matrix : Matrix
 no_matrix = record { row0 = zeros; row1 = zeros; row2 = zeros }
 
 -- 0 and 0 and the matrix where the call is accepted; number and place and zeros where it is refused
-abbrev pub record_of : Outcome → Matrix → Record
-record_of Accepted m = record3 0 0 m
-record_of (Refused r) m = record3 r.number r.place no_matrix
+abbrev pub record_of : Result Unit Refusal → Matrix → Record
+record_of (Ok _) m = record3 0 0 m
+record_of (Err r) m = record3 r.number r.place no_matrix
 
 -- ---- its bytes
 

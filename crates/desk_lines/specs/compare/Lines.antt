@@ -2,12 +2,12 @@
 use Rattle.std.specs.Prelude.{cond, List, [], ◌++◌, ℕ, zero, suc, ◌/◌, eqb, length}
 use Rattle.catalogue_compare.specs.Changes.{changes_of}
 use Rattle.catalogue_compare.specs.Read.{identity_at, kind_at}
-use Rattle.refusal.specs.declared.Counted.{Counted}
-use Rattle.refusal.specs.declared.Counted.TheVariants.{Refused, Count}
 use Rattle.catalogue_compare.specs.Compare.{compared_of}
 use Rattle.text.specs.Ascii.{ascii}
 use Rattle.text.specs.Decimal.{labelled}
 use Rattle.text.specs.Refused.{refusal_line}
+use Rattle.std.specs.Prelude.{Result, Ok, Err}
+use Rattle.refusal.specs.declared.Refusal.{Refusal}
 
 -- what the list says of a star, in a word, and its identity
 unfoldable pub change_label : ℕ → ℕ → List ℕ
@@ -26,9 +26,9 @@ abbrev pub lines_of : List ℕ → List ℕ
 lines_of list = lines_to list (length list / 8)
 
 -- the refusal's line, or the lines of the list: two catalogues have at most 1,024 records, for which 8,192 bytes are enough
-abbrev pub changed_text : List ℕ → Counted → List ℕ
-changed_text list (Refused r) = refusal_line r
-changed_text list (Count n) = lines_of list
+abbrev pub changed_text : List ℕ → Result ℕ Refusal → List ℕ
+changed_text list (Err r) = refusal_line r
+changed_text list (Ok n) = lines_of list
 
 unfoldable pub compare_text : List ℕ → List ℕ → List ℕ
 compare_text first second = changed_text (changes_of first second) (compared_of first second 8192)

@@ -6,8 +6,6 @@ use borrow.Author.Tests.{eq-eqb, ne_eqb}
 use Rattle.refusal.specs.declared.Refusal.{Refusal}
 use Rattle.catalogue_compare.specs.Changes.{changes_of}
 use Rattle.catalogue_compare.specs.Read.{identity_at, kind_at}
-use Rattle.refusal.specs.declared.Counted.{Counted}
-use Rattle.refusal.specs.declared.Counted.TheVariants.{Refused, Count}
 use Rattle.catalogue_compare.specs.Compare.{compared_of, room_after}
 use Rattle.catalogue_compare.proofs.CompareSteps.{records-are, records-fit, records-there}
 use Rattle.text.specs.Decimal.{labelled}
@@ -15,6 +13,7 @@ use Rattle.text.specs.Refused.{refusal_line}
 use Rattle.text.specs.Written.{Wrote}
 use Rattle.text.specs.WrittenLaws.{wrote_none, wrote_then}
 use Rattle.desk_lines.specs.compare.Lines.{change_label, change_line, lines_to, lines_of, changed_text, compare_text}
+use Rattle.std.specs.Prelude.{Result, Ok, Err}
 
 -- ---- by what is said
 
@@ -52,17 +51,17 @@ lines-all list n {a} {b} {end} e p = subst (λ (k : ℕ). Wrote a 0 (lines_to li
 -- ---- the text of two catalogues
 
 module _ (first second : List ℕ) where
-  pub text-refused : (r : Refusal) → compared_of first second 8192 ≡ Refused r → refusal_line r ≡ compare_text first second
+  pub text-refused : (r : Refusal) → compared_of first second 8192 ≡ Err r → refusal_line r ≡ compare_text first second
   unfolding compare_text
-  text-refused r e = sym (ap (λ (c : Counted). changed_text (changes_of first second) c) e)
+  text-refused r e = sym (ap (λ (c : Result ℕ Refusal). changed_text (changes_of first second) c) e)
 
-  pub text-listed : (n : ℕ) → compared_of first second 8192 ≡ Count n → lines_of (changes_of first second) ≡ compare_text first second
+  pub text-listed : (n : ℕ) → compared_of first second 8192 ≡ Ok n → lines_of (changes_of first second) ≡ compare_text first second
   unfolding compare_text
-  text-listed n e = sym (ap (λ (c : Counted). changed_text (changes_of first second) c) e)
+  text-listed n e = sym (ap (λ (c : Result ℕ Refusal). changed_text (changes_of first second) c) e)
 
   -- the list stands at the front of a room of 8,192 bytes that was lent for it
-  module _ (room : List ℕ) (long : length room ≡ 8192) (n : ℕ) (e : compared_of first second 8192 ≡ Count n) where
-    same : compared_of first second (length room) ≡ Count n
+  module _ (room : List ℕ) (long : length room ≡ 8192) (n : ℕ) (e : compared_of first second 8192 ≡ Ok n) where
+    same : compared_of first second (length room) ≡ Ok n
     same = ap (compared_of first second) long ∙ e
 
     pub list-fits : 8 * n ≤ 8192

@@ -3,24 +3,21 @@ use Rattle.std.specs.Prelude.{Bool, true, false, cond, List, [], ◌∷◌, ◌�
 use Rattle.std.proofs.Common.{ap, ◌∙◌, arith, ltb-true, ltb-false, lt-ltb, le-ltb}
 use Rattle.std.specs.Int.Signed.{mag, lt_z}
 use Rattle.lists.specs.Contradiction.{contradiction}
-use Rattle.text.specs.declared.sign.Signed.{Signed}
-use Rattle.text.specs.declared.sign.Signed.TheVariants as signed
 use Rattle.text.specs.Sign as sign
 use Rattle.text.specs.Sign.{parsed_signed_of}
 use Rattle.text.specs.SignLaws.{told as signed-told}
-use Rattle.desk_lines.specs.declared.cut.limit.Limit.{Limit}
-use Rattle.desk_lines.specs.declared.cut.limit.Limit.TheVariants.{Number, NoNumber}
 use Rattle.desk_lines.specs.cut.Limit.{limit_for, narrowed, limit_of, numbers_of, numbers_for}
+use Rattle.std.specs.Prelude.{Option, Some, None}
 
-far : (z : ℤ) → 2147483648 ≤ mag z → limit_for z ≡ NoNumber
+far : (z : ℤ) → 2147483648 ≤ mag z → limit_for z ≡ None
 unfolding limit_for
 far z h = rw (le-ltb (mag z) 2147483648 h)
 
-pub too-low : (z : ℤ) → lt_z z (negsuc 2147483647) ≡ true → limit_for z ≡ NoNumber
+pub too-low : (z : ℤ) → lt_z z (negsuc 2147483647) ≡ true → limit_for z ≡ None
 too-low (pos n) e = contradiction e
 too-low (negsuc n) e = far (negsuc n) (omega (arith, ltb-true 2147483647 n e))
 
-pub too-high : (z : ℤ) → lt_z (pos 2147483647) z ≡ true → limit_for z ≡ NoNumber
+pub too-high : (z : ℤ) → lt_z (pos 2147483647) z ≡ true → limit_for z ≡ None
 too-high (pos n) e = far (pos n) (omega (arith, ltb-true 2147483647 n e))
 too-high (negsuc n) e = contradiction e
 
@@ -28,20 +25,20 @@ pub held : (z : ℤ) → lt_z z (negsuc 2147483647) ≡ false → lt_z (pos 2147
 held (pos n) e d = omega (arith, ltb-false 2147483647 n d)
 held (negsuc n) e d = omega (arith, ltb-false 2147483647 n e)
 
-pub near : (z : ℤ) → mag z < 2147483648 → limit_for z ≡ Number z
+pub near : (z : ℤ) → mag z < 2147483648 → limit_for z ≡ Some z
 unfolding limit_for
 near z h = rw (lt-ltb (mag z) 2147483648 h)
 
 -- ---- as values
 
-narrowed-held : (s : Signed) → numbers_of (narrowed s) ≡ sign.held 2147483648 (sign.numbers_of s)
+narrowed-held : (s : Option ℤ) → numbers_of (narrowed s) ≡ sign.held 2147483648 (sign.numbers_of s)
 unfolding limit_for sign.held
-narrowed-held signed.NoNumber = refl
-narrowed-held (signed.Number z) = by (ltb (mag z) 2147483648)
+narrowed-held None = refl
+narrowed-held (Some z) = by (ltb (mag z) 2147483648)
   where
-    by : (b : Bool) → numbers_of (cond b (Number z) NoNumber) ≡ cond b (z ∷ []) []
+    by : (b : Bool) → numbers_of (cond b (Some z) None) ≡ cond b (z ∷ []) []
     by true = refl
     by false = refl
 
-pub told : (word : List ℕ) {l : Limit} → l ≡ limit_of word → (l ≡ limit_of word) × (numbers_of l ≡ numbers_for word)
-told word e = (e, ap (λ (l : Limit). numbers_of l) e ∙ narrowed-held (parsed_signed_of word) ∙ ap (sign.held 2147483648) (signed-told word refl).1)
+pub told : (word : List ℕ) {l : Option ℤ} → l ≡ limit_of word → (l ≡ limit_of word) × (numbers_of l ≡ numbers_for word)
+told word e = (e, ap (λ (l : Option ℤ). numbers_of l) e ∙ narrowed-held (parsed_signed_of word) ∙ ap (sign.held 2147483648) (signed-told word refl).1)

@@ -2,39 +2,29 @@
 ghost use Rattle.std.specs.Prelude.{◌≡◌};
 ghost use Rattle.desk_lines.specs.cut.Limit.{limit_for, limit_of, numbers_of, numbers_for};
 
-use text::Signed;
-
-#[derive(Clone, Copy)]
-pub enum Limit {
-    Number(i32),
-    NoNumber,
-}
-
 const LEAST: i64 = -2147483648;
 
 const GREATEST: i64 = 2147483647;
 
 // A number, if 32 bits hold it.
-fn narrow(z: i64) -> Limit
+// Stays: two tests and no `i32::try_from`: the edits least_limit_refused and limit_beyond_32_bits turn the two bounds.
+fn narrow(z: i64) -> Option<i32>
     ensures { result ≡ limit_for z }
 {
     if z < LEAST {
-        return Limit::NoNumber;
+        return None;
     }
     if GREATEST < z {
-        return Limit::NoNumber;
+        return None;
     }
-    Limit::Number(z as i32)
+    Some(z as i32)
 }
 
 // The number that a word spells in decimal, with a "-" in front where it is below zero.
-pub fn parse_limit(word: &[u8]) -> Limit
+pub fn parse_limit(word: &[u8]) -> Option<i32>
     ensures value { result ≡ limit_of word.now }
     ensures result_value { numbers_of result ≡ numbers_for word.now }
 {
-    let number = text::parse_signed(word);
-    match number {
-        Signed::NoNumber => Limit::NoNumber,
-        Signed::Number(z) => narrow(z),
-    }
+    let number = text::parse_signed(word)?;
+    narrow(number)
 }

@@ -1,7 +1,7 @@
 -- Which sample `first_over` names, and that a call is accepted exactly when its inputs are as document 01 has them. Assumes nothing.
 use Rattle.std.specs.Prelude.{true, false, not, ◌≡◌, ℕ, ◌*◌, ◌≤◌, ◌<◌, get_or, ltb, leb}
 use Rattle.std.proofs.Common.{ap, ◌∙◌, mul-le-mul, lt_irrefl, arith}
-use mathlib.Core.List.{List, [], ◌∷◌, ◌++◌}
+use mathlib.Core.List.{List, [], ◌∷◌}
 use Rattle.std.proofs.Math.Nat.{mul_comm}
 use Rattle.std.proofs.Math.ListN.{length}
 use borrow.Author.Tests.{lt-ltb, le-ltb, ltb-true, ltb-false, leb-true, leb-false, le-leb, eqb-true, eq-eqb, not-false}
@@ -16,21 +16,8 @@ use Rattle.refusal.proofs.AnswerLaws.{outcome-by}
 use Rattle.refusal.specs.Laws.{Silent}
 use Rattle.refusal.proofs.Laws.{accepted-silent, applying-here, applying-next, applying-append}
 use Rattle.refusal.specs.declared.Refusal.{Refusal}
-use Rattle.refusal.specs.declared.Outcome.{Outcome}
-use Rattle.refusal.specs.declared.Outcome.TheVariants.{Accepted, Refused}
-use Rattle.frame_list.specs.input.Input.{
-  within,
-  size_out,
-  length_out,
-  threshold_out,
-  first_over,
-  sample_out,
-  pixel_out,
-  frame_rows,
-  pixel_rows,
-  frame_answer,
-  pixel_answer,
-}
+use Rattle.frame_list.specs.input.Input.{within, size_out, length_out, threshold_out, first_over, sample_out, pixel_out, frame_rows, pixel_rows, frame_answer, pixel_answer}
+use Rattle.std.specs.Prelude.{Result, Ok, Err}
 
 -- ---- tests taken apart
 
@@ -101,14 +88,14 @@ module _ (samples : List ℕ) (width height threshold : ℕ) where
         small = none_over samples (ltb-false (first_over samples) (length samples) s);
       }
 
-  pub accepted-valid : first_applying (frame_rows samples width height threshold) ≡ Accepted → Valid samples width height threshold
+  pub accepted-valid : first_applying (frame_rows samples width height threshold) ≡ Ok tt → Valid samples width height threshold
   unfolding Silent
   accepted-valid e =
       let s = accepted-silent (frame_rows samples width height threshold) e in
       valid s.0 s.1.0 s.1.1.0 s.1.1.1.0
 
   -- and a call with such inputs is accepted
-  pub valid-accepted : Valid samples width height threshold → first_applying (frame_rows samples width height threshold) ≡ Accepted
+  pub valid-accepted : Valid samples width height threshold → first_applying (frame_rows samples width height threshold) ≡ Ok tt
   unfolding first_applying
   valid-accepted v =
       let e : length samples ≡ width * height = v.whole ∙ mul_comm height width in
@@ -124,7 +111,7 @@ module _ (samples : List ℕ) (width height threshold : ℕ) where
       )
 
   -- with a pixel that lies in the frame
-  pub accepted-pixel : (r c : ℕ) → first_applying (pixel_rows samples width height threshold r c) ≡ Accepted → Valid samples width height threshold × (r < height)
+  pub accepted-pixel : (r c : ℕ) → first_applying (pixel_rows samples width height threshold r c) ≡ Ok tt → Valid samples width height threshold × (r < height)
       × (c < width)
   unfolding Silent
   accepted-pixel r c e =
@@ -136,33 +123,33 @@ module _ (samples : List ℕ) (width height threshold : ℕ) where
 
 module _ (samples : List ℕ) (width height threshold r c : ℕ) where
   -- the frame's refusal, or the pixel's
-  pixel-joined : {o : Outcome} → first_applying (frame_rows samples width height threshold) ≡ o
+  pixel-joined : {o : Result Unit Refusal} → first_applying (frame_rows samples width height threshold) ≡ o
       → first_applying (pixel_rows samples width height threshold r c) ≡ otherwise o (first_applying (row (pixel_out width height r c) numbers.pixel ∷ []))
   pixel-joined e =
       applying-append (frame_rows samples width height threshold) (row (pixel_out width height r c) numbers.pixel ∷ [])
-      ∙ ap (λ (o : Outcome). otherwise o (first_applying (row (pixel_out width height r c) numbers.pixel ∷ []))) e
+      ∙ ap (λ (o : Result Unit Refusal). otherwise o (first_applying (row (pixel_out width height r c) numbers.pixel ∷ []))) e
 
-  pub pixel-refused : (f : Refusal) → first_applying (frame_rows samples width height threshold) ≡ Refused f
-      → first_applying (pixel_rows samples width height threshold r c) ≡ Refused f
+  pub pixel-refused : (f : Refusal) → first_applying (frame_rows samples width height threshold) ≡ Err f
+      → first_applying (pixel_rows samples width height threshold r c) ≡ Err f
   pixel-refused f e = pixel-joined e
 
-  pub pixel-outside : first_applying (frame_rows samples width height threshold) ≡ Accepted → pixel_out width height r c ≡ true
+  pub pixel-outside : first_applying (frame_rows samples width height threshold) ≡ Ok tt → pixel_out width height r c ≡ true
       → first_applying (pixel_rows samples width height threshold r c) ≡ refusal_of numbers.pixel 0
   pixel-outside e t = pixel-joined e ∙ applying-here (row (pixel_out width height r c) numbers.pixel) [] t
 
-  pub pixel-inside : first_applying (frame_rows samples width height threshold) ≡ Accepted → pixel_out width height r c ≡ false
-      → first_applying (pixel_rows samples width height threshold r c) ≡ Accepted
+  pub pixel-inside : first_applying (frame_rows samples width height threshold) ≡ Ok tt → pixel_out width height r c ≡ false
+      → first_applying (pixel_rows samples width height threshold r c) ≡ Ok tt
   unfolding first_applying
   pixel-inside e t = pixel-joined e ∙ applying-next (row (pixel_out width height r c) numbers.pixel) [] t
 
 -- ---- an outcome that goes by the rows has document 01's number and place
 
-pub frame-told : (samples : List ℕ) (width height threshold : ℕ) {o : Outcome} → o ≡ first_applying (frame_rows samples width height threshold)
+pub frame-told : (samples : List ℕ) (width height threshold : ℕ) {o : Result Unit Refusal} → o ≡ first_applying (frame_rows samples width height threshold)
     → (o ≡ first_applying (frame_rows samples width height threshold)) × (answer_of o ≡ frame_answer samples width height threshold (accepted_with []))
 unfolding answer_by
 frame-told samples width height threshold e = in-terms answer_of e (outcome-by (frame_rows samples width height threshold))
 
-pub pixel-told : (samples : List ℕ) (width height threshold r c : ℕ) {o : Outcome} → o ≡ first_applying (pixel_rows samples width height threshold r c)
+pub pixel-told : (samples : List ℕ) (width height threshold r c : ℕ) {o : Result Unit Refusal} → o ≡ first_applying (pixel_rows samples width height threshold r c)
     → (o ≡ first_applying (pixel_rows samples width height threshold r c)) × (answer_of o ≡ pixel_answer samples width height threshold r c (accepted_with []))
 unfolding answer_by
 pixel-told samples width height threshold r c e = in-terms answer_of e (outcome-by (pixel_rows samples width height threshold r c))

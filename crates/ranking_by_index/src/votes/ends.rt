@@ -3,8 +3,8 @@ ghost use Rattle.std.specs.Prelude.{◌≡◌, ℕ, ◌+◌, ◌/◌, ◌%◌, �
 ghost use Rattle.ranking_by_index.specs.votes.Span.{named};
 
 // A vote for each of the two stars that a record's last four bytes name.
-pub(crate) fn vote_both(votes: &mut [u32], ends: u32)
-    requires ends_in_bounds { (ends / 65536 < length votes.old) × (ends % 65536 < length votes.old) }
+pub(crate) fn vote_both(votes: &mut [u32; 512], ends: u32)
+    requires ends_in_bounds { (ends / 65536 < 512) × (ends % 65536 < 512) }
     requires by_index { (c : ℕ) → get_or votes.old c 0 ≤ 2000000000 }
     ensures { (c : ℕ) → get_or votes.new c 0 ≡ get_or votes.old c 0 + named c ends }
 {

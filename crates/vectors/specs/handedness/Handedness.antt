@@ -1,5 +1,5 @@
 -- T-03: which way round three vectors stand, and when two threes are mirror images of each other. Assumes nothing.
-use Rattle.std.specs.Prelude.{Bool, ◌&&◌, ◌||◌, ℕ, ℤ, pos, negsuc}
+use Rattle.std.specs.Prelude.{Bool, ◌&&◌, ◌||◌, ℤ, pos, negsuc}
 use Rattle.std.specs.Int.Signed.{quot_z, le_z}
 use Rattle.vectors.specs.Vectors.{dot_of, cross_of}
 use Rattle.vectors.specs.declared.Vec3.{Vec3}

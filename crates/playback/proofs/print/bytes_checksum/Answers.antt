@@ -2,12 +2,12 @@ use Rattle.std.proofs.Common.{refl, sym, ◌∙◌, ◌+◌, ◌*◌, ◌%◌, a
 use Rattle.playback.specs.Sum.{sum_to, sum-next}
 use Rattle.playback.proofs.print.bytes_checksum.Goals as goal
 
-pub loop-x-init : goal.loop-x-init
+pub loop-byte-init : goal.loop-byte-init
 unfolding sum_to
-loop-x-init c = (omega arith, refl)
+loop-byte-init c = (omega arith, refl)
 
-pub loop-x-preserved : goal.loop-x-preserved
-loop-x-preserved c = (
+pub loop-byte-preserved : goal.loop-byte-preserved
+loop-byte-preserved c = (
   omega arith,
-  (λ k. (c.loop-x.invariant.1 k * 31 + c.byte.ensures.0 k + 1) % 1000003) ∙ sym (sum-next c.args.room.now c.loop-x.x-index),
+  (λ k. (c.loop-byte.invariant.1 k * 31 + c.from.ensures k + 1) % 1000003) ∙ sym (sum-next c.args.room.now c.loop-byte.byte-index),
 )

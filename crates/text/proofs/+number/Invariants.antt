@@ -1,0 +1,5 @@
+-- A number's tenth is less than it.
+use Rattle.text.proofs.+number.Given as goal
+
+abbrev pub decreases-number : goal.decreases-number
+decreases-number l = l.n

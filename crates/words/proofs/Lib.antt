@@ -1,0 +1,2 @@
+-- Lemmas of `words`.
+pub mod Whole
