@@ -14,7 +14,8 @@ ghost use Rattle.search.specs.Identified.{identification_by, Identified, identif
 use refusal::Refusal;
 
 // What the search answers: whether the call is accepted, and the words of the assignment, 0 behind the directions and where it is refused.
-// Stays: the outcome beside the words and no Result of them. `Identified` and `one_of_three` of `Answered` say that they are zeros on a refusal.
+// Stays: the outcome beside the words and no Result of them. `Searched`, `contest_of` and the chain's `settled_of` take the words of a refused answer too,
+// and `one_of_three` of `Answered` says that they are zeros.
 #[derive(Clone, Copy)]
 pub struct Identification {
     pub outcome: Result<(), Refusal>,

@@ -10,8 +10,8 @@ use refusal::Refusal;
 
 // What the call answers: whether it is accepted, whether our identification has a rival, and the words of the first; they are 0 behind the
 // directions, where ours is alone, and where the call is refused.
-// Stays: the outcome, the flag and the words beside one another. `Contested` says what each is where ours is alone or the call is refused, and the edits
-// refused_with_a_rival and rival_called_alone try it.
+// Stays: the outcome, the flag and the words beside one another. `Contested` says what each is where ours is alone or the call is refused, no-wrong-name
+// and chain-no-wrong-name are said of the flag, and the edits refused_with_a_rival and rival_called_alone try it.
 #[derive(Clone, Copy)]
 pub struct Contest {
     pub outcome: Result<(), Refusal>,
