@@ -186,5 +186,8 @@ pub fn hand_over(out: &mut [i64], flat: [i64; 64])
     if is_short {
         return;
     }
-    out[..64].copy_from_slice(&flat);
+    // Stays: one after the other. `copy_from_slice` calls `memmove` on AArch64 too, a name more that a program without a C library would have to bring.
+    for i in 0..64 {
+        out[i] = flat[i];
+    }
 }
