@@ -1,5 +1,5 @@
 -- What agrees with a dot product lies in a span around it. Assumes nothing.
-use Rattle.std.proofs.Common.{◌≡◌, ℕ, zero, suc, ◌+◌, ◌-◌, ◌*◌, ◌%◌, ◌<◌, ◌≤◌, leb, ℤ, pos, negsuc, ◌+ℤ◌, ◌-ℤ◌, nat_abs, sym, ◌∙◌, arith, le-leb}
+use Rattle.std.proofs.Common.{◌≡◌, ℕ, zero, suc, ◌+◌, ◌-◌, ◌*◌, ◌%◌, ◌≤◌, leb, ℤ, pos, negsuc, ◌+ℤ◌, ◌-ℤ◌, nat_abs, sym, ◌∙◌, arith, le-leb}
 use native.Mathlib.Decide.{dec_le}
 use borrow.Author.Tests.{lt-leb}
 use Rattle.numbers.specs.Abs.{abs-sub}
@@ -29,20 +29,22 @@ apart (negsuc a) (pos (suc b)) f g = omega (arith, f.within)
 apart (negsuc a) (negsuc b) f g = omega (arith, abs-sub (suc b) (suc a), f.within, g.within)
 
 -- in the span, moved so that it begins at 0
-moved : (a b half start n : ℕ) → a ≤ 7000000000000000000 → b ≤ 7000000000000000000 → 1000000000000000000 ≤ a → 1000000000000000000 ≤ b
-    → half ≤ 6000000000000000000 → start < 18446744073709551616 → (start + a) % 18446744073709551616 ≡ half → n ≡ (b + start) % 18446744073709551616
-    → leb n (2 * half) ≡ leb ((a - b) + (b - a)) half
-moved a b half start n la lb ga gb lh ls es en = by (dec_le ((a - b) + (b - a)) half)
+moved : (a b half : ℕ) → a ≤ 7000000000000000000 → b ≤ 7000000000000000000 → 1000000000000000000 ≤ a → 1000000000000000000 ≤ b → half ≤ 6000000000000000000
+    → leb ((b + (half + (18446744073709551616 - a)) % 18446744073709551616) % 18446744073709551616) (2 * half) ≡ leb ((a - b) + (b - a)) half
+moved a b half la lb ga gb lh = by (dec_le ((a - b) + (b - a)) half)
   where
+    n : ℕ
+    n = (b + (half + (18446744073709551616 - a)) % 18446744073709551616) % 18446744073709551616
+
     by : Dec ((a - b) + (b - a) ≤ half) → leb n (2 * half) ≡ leb ((a - b) + (b - a)) half
     by (yes p) = le-leb n (2 * half) (omega arith) ∙ sym (le-leb ((a - b) + (b - a)) half p)
     by (no p) = lt-leb n (2 * half) (omega arith) ∙ sym (lt-leb ((a - b) + (b - a)) half (omega arith))
 
-pub in_span : (x y : ℤ) (t half start n : ℕ) → Within 3000000000000000000 x → Within 3000000000000000000 y → half ≤ 6000000000000000000
-    → ((d : ℕ) → d ≤ 6000000000000000000 → leb d half ≡ leb d t) → start < 18446744073709551616 → (start + raised x) % 18446744073709551616 ≡ half
-    → n ≡ (raised y + start) % 18446744073709551616 → leb n (2 * half) ≡ agreeing x y t
+pub in_span : (x y : ℤ) (t half a b : ℕ) → Within 3000000000000000000 x → Within 3000000000000000000 y → half ≤ 6000000000000000000
+    → ((d : ℕ) → d ≤ 6000000000000000000 → leb d half ≡ leb d t) → a ≡ raised x → b ≡ raised y
+    → leb ((b + (half + (18446744073709551616 - a)) % 18446744073709551616) % 18446744073709551616) (2 * half) ≡ agreeing x y t
 unfolding agreeing
-in_span x y t half start n f g lh same ls es en =
-    let a = raised-within f in
-    let b = raised-within g in
-    rw (apart x y f g) (moved (raised x) (raised y) half start n a.1 b.1 a.0 b.0 lh ls es en ∙ same _ (omega (arith, a.0, a.1, b.0, b.1)))
+in_span x y t half a b f g lh same ea eb =
+    let v = raised-within f in
+    let w = raised-within g in
+    rw (ea, eb, apart x y f g) (moved (raised x) (raised y) half v.1 w.1 v.0 w.0 lh ∙ same _ (omega (arith, v.0, v.1, w.0, w.1)))

@@ -24,10 +24,7 @@ fn reach(tolerance: u64) -> u64
     ensures upper_bound { result ≤ 6000000000000000000 }
     ensures by_index { (d : ℕ) → d ≤ 6000000000000000000 → nat_le d result ≡ nat_le d tolerance }
 {
-    if tolerance < 6000000000000000000 {
-        return tolerance;
-    }
-    6000000000000000000
+    tolerance.min(6000000000000000000)
 }
 
 // Whether q is at most the tolerance away from p.
@@ -37,8 +34,8 @@ fn agree(p: i64, q: i64, tolerance: u64) -> bool
     ensures { result ≡ agreeing p q tolerance }
 {
     let half = reach(tolerance);
-    let start = std::num::wrapping_sub_u64(half, raised(p));
-    std::num::wrapping_add_u64(raised(q), start) <= 2 * half
+    let start = half.wrapping_sub(raised(p));
+    raised(q).wrapping_add(start) <= 2 * half
 }
 
 // Whether a dot product of two directions agrees with that of a star, which has these numbers, and the star a.
