@@ -6,8 +6,11 @@ use mathlib.Core.Logic.{⊎_elim}
 use Prim.Native.Nat.{ℕ, suc, ◌+◌, ◌*◌, ◌-◌, ◌/◌, ◌%◌, ◌≤◌, ◌<◌}
 use native.Mathlib.Omega.{arith}
 use native.Mathlib.Nat.{eq-or-lt_of_le, suc-mul, mul-add-div_right, mul-add-mod_self_right, mod-eq_of_lt, mod-lt, div-eq_of_lt, div-lt_iff_lt-mul}
-use lib.ListN.{length}
+use lib.ListN.{get_or, length, take, drop}
 use lib.Dec.{leb, ltb, eqb}
+use Rattle.std.proofs.Common.{length-drop}
+use Rattle.std.proofs.lemmas.List.{length-take, get_or-take, get_or-drop}
+use Rattle.lists.specs.TestsLaws.{some_same}
 use borrow.Author.Tests.{le-leb, lt-leb, leb-false, eq-eqb, ne_eqb, eqb-true, eqb-false, lt-ltb, le-ltb, ltb-false}
 use Rattle.lists.specs.Contradiction.{contradiction}
 use Rattle.lists.specs.First.{first}
@@ -68,6 +71,39 @@ module _ (words : List ℕ) (stars : ℕ) where
     where
       one_more : (i : ℕ) → i + 1 ≡ suc i
       one_more i = omega arith
+
+-- ---- a row by itself, as a part of the ranking
+
+module _ (words : List ℕ) (stars base : ℕ) where
+  abbrev row : List ℕ
+  row = take (base + stars - base) (drop base words)
+
+  pub row-length : base + stars ≤ length words → length row ≡ stars
+  row-length h = omega (arith, length-take (base + stars - base) (drop base words), length-drop base words)
+
+  row-word : (k : ℕ) → k < stars → word row 0 k ≡ word words base k
+  row-word k h =
+      let z : 0 + k ≡ k = omega arith in
+      ap (λ (n : ℕ). get_or row n 0) z ∙ get_or-take (base + stars - base) (drop base words) k 0 (omega arith) ∙ get_or-drop base words k 0
+
+  row-clash : (k : ℕ) → k < stars → clash row stars 0 k ≡ clash words stars base k
+  unfolding clash
+  row-clash k h = rw (
+    row-word k h,
+    some_same k (λ l. eqb (word row 0 l) (word words base k)) (λ l. eqb (word words base l) (word words base k))
+        (λ l m. ap (λ (n : ℕ). eqb n (word words base k)) (row-word l (omega arith))),
+  )
+
+  -- it clashes first where it does in the ranking
+  pub row-first : base + stars ≤ length words → first (clash row stars 0) (length row) ≡ first (clash words stars base) stars
+  row-first h =
+      let w = first-is (clash row stars 0) stars in
+      rw (row-length h)
+      (first_of (clash words stars base) stars (record {
+        most = w.most;
+        none = λ k l. sym (row-clash k (omega (arith, w.most))) ∙ w.none k l;
+        taken = λ l. sym (row-clash _ l) ∙ w.taken l;
+      }))
 
 -- ---- the whole ranking
 
