@@ -7,6 +7,8 @@ use crate::Matrix;
 use refusal::Refusal;
 
 // The first direction from a place on that has a star, or the number of directions where none has.
+// Stays: a number for none and no Option, as `assigned_from` of specs/orient has it. `attitude_of` asks only where two directions have a star, so it would open
+// an Option twice for nothing.
 fn assigned_from(words: [u16; 8], from: usize, directions: usize, stars: usize) -> usize
     requires { (from ≤ directions) × (directions ≤ 8) }
     ensures value { result ≡ assigned_from words stars directions from }

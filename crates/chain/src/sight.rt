@@ -14,6 +14,7 @@ use vectors::Vec3;
 
 // What stands before the ranking. Behind the directions, three numbers each, are zeros.
 // Stays: the outcome beside them and no Result. `sighting_of` gives report and directions of a refused call too.
+// Stays: an array whose count is the report's, since memory is fixed and `sighting_of` promises the zeros behind; `sights` takes the front alone.
 #[derive(Clone, Copy)]
 pub struct Sighting {
     pub outcome: Result<(), Refusal>,

@@ -13,6 +13,8 @@ mod stars; // stars.rt: the list and the counts, pixel by pixel
 pub mod input;
 
 // The first count of stars are the list, and the rest are zeros; measured, edge and lone count the pixels of the whole frame.
+// Stays: an array with its count beside it, since memory is fixed and the zeros are promised: `report_of` of specs/Stars fills up with them, and the law
+// `zeros-behind` says so of each place behind the count.
 #[derive(Clone, Copy)]
 pub struct Report {
     pub stars: [Centroid; 8],
@@ -31,7 +33,8 @@ pub struct Listing {
 }
 
 // The verdict on one pixel.
-// Stays: `judge`, `list` and the tests of `input` are what the calls for C hand their plain arguments to, before anything is known of them.
+// Stays: the frame's four parameters apart, here, in `list` and in `input`, and no `Frame` of them. A `Frame` holds a sample for each of its pixels, and
+// whether these do is what `input` tests first.
 #[tactic(auto, unfolding(crate::specs::Calls::judgement_of))]
 pub fn judge(
     samples: &[u16],

@@ -65,9 +65,9 @@ pub fn is_peak(pixel: Pixel) -> bool
 }
 
 // The kind of a pixel that is neither dark nor beaten. Where it is no edge it has all its neighbours, and its brightness is above 0 (`bright` of
-// specs/Bright), so the position's quotients exist.
-// Stays: the new form is no plainer. The look and `is_peak` take a frame of any size, so that sides of at most 1,024 as a type's invariant would need a
-// second type about `Frame` and a third about `Pixel`.
+// proofs/Bright), so the position's quotients exist.
+// Stays: the bound on the sides is a `requires` here and below. The look and `is_peak` take a frame of any size, so that as a fact of a type it would need
+// a second type about `Frame` and a third about `Pixel`.
 #[tactic(auto, unfolding(crate::specs::Verdict::peak_kind))]
 pub fn peak_kind(pixel: Pixel) -> Kind
     requires { let p = pixel in (p.frame.height ≤ 1024) × (p.frame.width ≤ 1024)

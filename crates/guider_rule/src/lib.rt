@@ -30,7 +30,8 @@ pub struct Guider {
 }
 
 // What a call gives: its outcome, and the guider.
-// Stays: the guider beside the outcome and no Result of it. A refused frame hands it back as it was, as the clause `value` of guider::frame says.
+// Stays: the guider beside the outcome and no Result of it. A refused call hands back a guider too, as the clauses `value` of guider::start and guider::frame
+// say: of a start zeros, and of a frame the one that it was handed.
 #[derive(Clone, Copy)]
 pub struct Guided {
     pub outcome: Result<(), Refusal>,

@@ -26,6 +26,8 @@ pub struct Setup {
 }
 
 // The newest star of the words chosen, with its place in the sky, the dot product of its direction, and the number of words before it.
+// Stays: none is the number of stars, as an assignment's words have it, with a place and a product of zeros, which agree with every star. So `NewestOf` of
+// specs/Fit says the same of a star and of none, and `passes` has no case for none.
 #[derive(Clone, Copy)]
 pub struct Newest {
     pub before: usize,

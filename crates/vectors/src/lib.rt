@@ -9,6 +9,8 @@ ghost use Rattle.vectors.specs.Vectors.{Within3, dot_of, cross_of};
 ghost use Rattle.vectors.specs.Triples.{AllWithin, triple_at, pair_dot};
 ghost use Rattle.vectors.specs.Agree.{agreeing};
 
+// Stays: no fact of its own about its size, and `Within3` where a function asks it. C hands over any numbers, of which `attitude::triad` refuses those beyond
+// 10^9, a triple of a list is any three numbers of 32 bits, and a cross product may be as large as 2 * 10^18.
 #[derive(Clone, Copy)]
 pub struct Vec3 {
     pub x: i64,
