@@ -6,7 +6,7 @@ use Prim.Native.Nat.{ℕ, suc, ◌+◌, ◌-◌, ◌<◌}
 use Rattle.std.proofs.Math.Numerals.{add-one}
 use native.Mathlib.Omega.{arith}
 use Rattle.std.proofs.Math.ListN.{length, get_or, replicate}
-use Rattle.std.proofs.Math.Seq.{take-suc, take-length, length-take-le, append_snoc}
+use Rattle.std.proofs.Math.Seq.{take-suc, take-length, take_at, length-take-le, append_snoc}
 use Rattle.std.proofs.lemmas.List.{set_at}
 use Rattle.catalogue.specs.Stars.{padded}
 
@@ -31,3 +31,8 @@ module _ (list : List ℤ) where
   pub filled-all : (k : ℕ) → k ≡ length list → filled list k ≡ padded list
   unfolding filled padded
   filled-all k e = rw (e, take-length)
+
+  -- the numbers before its end are the list
+  pub padded-front : (k : ℕ) → length list ≡ k → take k (padded list) ≡ list
+  unfolding padded
+  padded-front k e = take_at list _ k e

@@ -1,6 +1,7 @@
 // The star catalogue: the check of its bytes, and its stars decoded into numbers, three a star.
 #![tactic(auto)]
 
+pub mod decoded;
 mod format;
 mod rule;
 
@@ -66,7 +67,7 @@ pub fn stars(bytes: &[u8]) -> [i32; 1536]
     ensures { result ≡ padded (stars_of bytes.now) }
 {
     let count = 3 * stars_in(bytes);
-    // Stays: the whole array by value and its count apart, since memory is fixed and `padded` promises the zeros.
+    // Stays: the whole array by value, since memory is fixed and `padded` promises the zeros. `decoded::Stars` keeps it beside its count.
     let mut numbers = [0; 1536];
     for k in 0..count {
         numbers[k] = Record { bytes, i: k / 3 }.component(k % 3);

@@ -10,6 +10,7 @@ ghost use Rattle.catalogue_cut.specs.marks.Number.{number_of, numbers_of};
 ghost use Rattle.catalogue_cut.specs.marks.Marks.{faint_mark, meets_by, Judged, AllLooked};
 ghost use Rattle.catalogue_cut.specs.marks.Judge.{Settled};
 
+use catalogue::decoded::Stars;
 use vectors::Vec3;
 
 // What a star's mark says: it is kept as far as is known, another star is close to it, or it is fainter than the limit.
@@ -101,10 +102,9 @@ pub fn judge(bytes: &[u8], limit: i32, closeness: i64) -> [Mark; 512]
     ensures { Settled bytes.now limit closeness (numbers_of result) }
 {
     let mut marks = magnitudes(bytes, limit);
-    let numbers = catalogue::stars(bytes);
-    let end = 3 * catalogue::records(bytes);
+    let stars = Stars::of(bytes);
     let pairs = Pairs {
-        stars: &numbers[..end],
+        stars: stars.all(),
         closeness,
     };
     pairs.crowd_all(&mut marks);

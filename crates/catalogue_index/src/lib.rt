@@ -16,6 +16,7 @@ ghost use Rattle.catalogue_index.specs.Build.{built_from, room_from, built_of, r
 
 use crate::pairs::Pairs;
 use crate::records::shell;
+use catalogue::decoded::Stars;
 use refusal::Refusal;
 
 // The index of decoded stars, or refusal 16 where the room is too short.
@@ -43,10 +44,9 @@ pub fn build(catalogue: &[u8], floor: i64, room: &mut [u8]) -> Result<usize, Ref
     ensures room_after { room.new ≡ room_after catalogue.now floor room.old }
     ensures result_value { count_answer result ≡ answer_for catalogue.now floor (length room.old) }
 {
-    let n = catalogue::check(catalogue)?;
-    let numbers = catalogue::stars(catalogue);
-    let end = 3 * n;
-    build_from(&numbers[..end], floor, room)
+    catalogue::check(catalogue)?;
+    let stars = Stars::of(catalogue);
+    build_from(stars.all(), floor, room)
 }
 
 // Whether the bytes handed in are exactly the index of these stars for this floor: what refusal 17 is decided by.

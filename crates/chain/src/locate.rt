@@ -7,6 +7,7 @@ ghost use Rattle.chain.specs.Ready.{Settles, RankingStands, Names};
 use crate::sight::Sighting;
 use crate::{Settings, Tracked, admit, refused, sight};
 use attitude::orient;
+use catalogue::decoded::Stars;
 use frame_list::Report;
 use search::Identification;
 
@@ -21,9 +22,8 @@ fn settle(report: Report, directions: &[i32], bytes: &[u8], found: Identificatio
     match outcome {
         Err(r) => refused(r),
         Ok(()) => {
-            let numbers = catalogue::stars(bytes);
-            let end = 3 * catalogue::records(bytes);
-            match orient::attitude_of(directions, &numbers[..end], words) {
+            let stars = Stars::of(bytes);
+            match orient::attitude_of(directions, stars.all(), words) {
                 Err(r) => refused(r),
                 Ok(matrix) => Tracked {
                     outcome,

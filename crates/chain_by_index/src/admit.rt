@@ -4,6 +4,7 @@ ghost use Rattle.refusal.specs.Table.{first_applying};
 ghost use Rattle.vectors.specs.Triples.{Listed};
 ghost use Rattle.chain_by_index.specs.Chain.{index_rows, stars_rows};
 
+use catalogue::decoded::Stars;
 use refusal::Refusal;
 
 // 17, of decoded stars.
@@ -21,8 +22,7 @@ fn index_outcome(stars: &[i32], index: &[u8], floor: i64) -> Result<(), Refusal>
 pub(crate) fn stars_outcome(bytes: &[u8], index: &[u8], floor: i64) -> Result<(), Refusal>
     ensures { result ≡ first_applying (stars_rows bytes.now index.now floor) }
 {
-    let n = catalogue::check(bytes)?;
-    let numbers = catalogue::stars(bytes);
-    let end = 3 * n;
-    index_outcome(&numbers[..end], index, floor)
+    catalogue::check(bytes)?;
+    let stars = Stars::of(bytes);
+    index_outcome(stars.all(), index, floor)
 }

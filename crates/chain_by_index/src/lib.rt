@@ -11,6 +11,7 @@ ghost use Rattle.chain.specs.Ready.{Ready};
 ghost use Rattle.chain.specs.Sighting.{padded_sights};
 ghost use Rattle.chain_by_index.specs.Chain.{call, tracked_of, room_after};
 
+use catalogue::decoded::Stars;
 use chain::sight::Sighting;
 use chain::{Settings, Tracked, locate, sight};
 
@@ -31,11 +32,10 @@ fn located(
 {
     let report = sighting.report;
     let tolerance = settings.tolerance;
-    let stars = catalogue::stars(bytes);
-    let stars_end = 3 * catalogue::records(bytes);
+    let stars = Stars::of(bytes);
     let _ = ranking_by_index::rank_right(
         sighting.sights(),
-        &stars[..stars_end],
+        stars.all(),
         index,
         floor,
         tolerance,

@@ -11,6 +11,7 @@ ghost use Rattle.ranking.specs.Ranking.{ranking_of};
 ghost use Rattle.refusal.specs.Answer.{answer_of};
 ghost use Rattle.ranking.specs.Room.{rank_outcome_of, room_after, answer_for};
 
+use catalogue::decoded::Stars;
 use ranking_votes::ballot::Ballot;
 use refusal::Refusal;
 
@@ -45,11 +46,10 @@ pub fn rank(
     ensures result_value { answer_of result ≡ answer_for directions.now catalogue.now tolerance room.old }
 {
     refused::first_refusal(directions, catalogue, tolerance, room.len())?;
-    let numbers = catalogue::stars(catalogue);
-    let end = 3 * catalogue::records(catalogue);
+    let stars = Stars::of(catalogue);
     let ballot = Ballot {
         directions,
-        stars: &numbers[..end],
+        stars: stars.all(),
         tolerance,
     };
     let votes_for = |i|

@@ -13,6 +13,7 @@ ghost use Rattle.ranking_by_index.specs.Call.{call, outcome_of, room_after, answ
 ghost use Rattle.ranking_by_index.specs.Stars.{outcome_from, room_from};
 
 use crate::votes::Indexed;
+use catalogue::decoded::Stars;
 use ranking_votes::ballot::Ballot;
 use refusal::Refusal;
 
@@ -84,10 +85,9 @@ pub fn rank(
         room.old) }
     ensures result_value { answer_of result ≡ answer_for (call directions.now catalogue.now index.now floor tolerance room.old) }
 {
-    let n = catalogue::check(catalogue)?;
-    let numbers = catalogue::stars(catalogue);
-    let end = 3 * n;
-    rank_from(directions, &numbers[..end], index, floor, tolerance, room)
+    catalogue::check(catalogue)?;
+    let stars = Stars::of(catalogue);
+    rank_from(directions, stars.all(), index, floor, tolerance, room)
 }
 
 // The same with an index that the caller has tested for this catalogue and floor.
@@ -103,8 +103,7 @@ pub fn rank_trusting_index(
     ensures value { result ≡ outcome_of (call directions.now catalogue.now index.now floor tolerance room.old) }
     ensures room_after { room.new ≡ room_after (call directions.now catalogue.now index.now floor tolerance room.old) }
 {
-    let n = catalogue::check(catalogue)?;
-    let numbers = catalogue::stars(catalogue);
-    let end = 3 * n;
-    rank_right(directions, &numbers[..end], index, floor, tolerance, room)
+    catalogue::check(catalogue)?;
+    let stars = Stars::of(catalogue);
+    rank_right(directions, stars.all(), index, floor, tolerance, room)
 }

@@ -11,6 +11,7 @@ ghost use Rattle.search_backtrack.specs.Input.{Input};
 ghost use Rattle.search.specs.First.{FirstFit};
 ghost use Rattle.search.specs.Identified.{identification_by, Identified, identification_of};
 
+use catalogue::decoded::Stars;
 use refusal::Refusal;
 
 // What the search answers: whether the call is accepted, and the words of the assignment, 0 behind the directions and where it is refused.
@@ -79,8 +80,7 @@ pub fn search(
             stars: [0u16; 8],
         };
     }
-    let numbers = catalogue::stars(catalogue);
-    let end = 3 * catalogue::records(catalogue);
-    let answer = first_fit(ranking, directions, &numbers[..end], needed, tolerance);
+    let stars = Stars::of(catalogue);
+    let answer = first_fit(ranking, directions, stars.all(), needed, tolerance);
     settled(answer)
 }

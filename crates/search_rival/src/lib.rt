@@ -6,6 +6,7 @@ ghost use Rattle.search_fit.specs.Fit.{setup_of};
 ghost use Rattle.search_backtrack.specs.Input.{Input};
 ghost use Rattle.search_rival.specs.Contested.{FirstRival, contest_by, Contested, contest_of};
 
+use catalogue::decoded::Stars;
 use refusal::Refusal;
 
 // What the call answers: whether it is accepted, whether our identification has a rival, and the words of the first; they are 0 behind the
@@ -74,15 +75,7 @@ pub fn rival(
         };
     }
     let ours = identification.stars;
-    let numbers = catalogue::stars(catalogue);
-    let end = 3 * catalogue::records(catalogue);
-    let answer = first_rival(
-        ranking,
-        directions,
-        &numbers[..end],
-        needed,
-        tolerance,
-        ours,
-    );
+    let stars = Stars::of(catalogue);
+    let answer = first_rival(ranking, directions, stars.all(), needed, tolerance, ours);
     settled(answer)
 }

@@ -1,55 +1,39 @@
 -- The catalogue's refusal, or what its stars give; the third promise follows from the first.
-use Rattle.std.proofs.Common.{length, sym, ap, ◌∙◌, subst, arith, length-take-le, w64}
+use Rattle.std.proofs.Common.{length, sym, ap, ◌∙◌, subst, w64}
 use mir.ValLaws.{to_z-of_z}
 use Rattle.std.proofs.lemmas.Result.{err_from_is_err_and}
 use Rattle.refusal.specs.Counted.{count_answer}
 use Rattle.catalogue.specs.CheckLaws.{checked_refused, checked-valid}
-use Rattle.catalogue.specs.Lent.{lent-within, lent-stars}
 use Rattle.vectors.specs.Triples.{Listed}
 use Rattle.catalogue_index.specs.Build.{built_from, room_from}
 use Rattle.catalogue_index.specs.BuildLaws.{answers, catalogue-refused, catalogue-kept, valid-listed, valid-built, valid-room}
 use Rattle.catalogue_index.proofs.build.Goals as goal
 
-pub overflow_mul-end : goal.overflow_mul-end
-overflow_mul-end c =
-    let v = checked-valid _ _ (sym c.in_ok-n.ensures.value) in
-    omega (arith, v.1, v.0.size.most)
-
-pub slice_bounds-numbers-end : goal.slice_bounds-numbers-end
-slice_bounds-numbers-end c =
-    let v = checked-valid _ _ (sym c.in_ok-n.ensures.value) in
-    lent-within _ _ _ c.stars-numbers.ensures v.1 v.0
-
-pub slice_bounds-build_from-end : goal.slice_bounds-build_from-end
-slice_bounds-build_from-end c =
-    let v = checked-valid _ _ (sym c.in_ok-n.ensures.value) in
-    sym (length-take-le _ _ (lent-within _ _ _ c.stars-numbers.ensures v.1 v.0))
-
 pub build_from-requires : goal.build_from-requires
 build_from-requires c =
-    let v = checked-valid _ _ (sym c.in_ok-n.ensures.value) in
-    subst (Listed 512) (sym (lent-stars _ _ _ c.stars-numbers.ensures v.1 v.0)) (valid-listed _ v.0)
+    let v = checked-valid _ _ (sym c.in_ok-check.ensures.value) in
+    subst (Listed 512) (sym (c.all.ensures ∙ c.of-stars.ensures)) (valid-listed _ v.0)
 
-pub returns-in_err-n-clause-value : goal.returns-in_err-n-clause-value
-returns-in_err-n-clause-value c =
+pub returns-in_err-check-clause-value : goal.returns-in_err-check-clause-value
+returns-in_err-check-clause-value c =
     let a = c.args in
     let p = err_from_is_err_and c.from_residual.result c.from_residual.ensures.1 in
-    rw (p.1, p.2) (sym (catalogue-refused a.catalogue.now a.floor _ (checked_refused _ _ (sym c.in_err-n.ensures.value)) _))
+    rw (p.1, p.2) (sym (catalogue-refused a.catalogue.now a.floor _ (checked_refused _ _ (sym c.in_err-check.ensures.value)) _))
 
-pub returns-in_err-n-clause-room_after : goal.returns-in_err-n-clause-room_after
-returns-in_err-n-clause-room_after c =
+pub returns-in_err-check-clause-room_after : goal.returns-in_err-check-clause-room_after
+returns-in_err-check-clause-room_after c =
     let a = c.args in
-    sym (catalogue-kept a.catalogue.now a.floor _ (checked_refused _ _ (sym c.in_err-n.ensures.value)) a.room.now)
+    sym (catalogue-kept a.catalogue.now a.floor _ (checked_refused _ _ (sym c.in_err-check.ensures.value)) a.room.now)
 
-pub returns-in_err-n-clause-result_value : goal.returns-in_err-n-clause-result_value
-returns-in_err-n-clause-result_value c =
-    ap count_answer (returns-in_err-n-clause-value c) ∙ answers c.args.catalogue.now c.args.floor _
+pub returns-in_err-check-clause-result_value : goal.returns-in_err-check-clause-result_value
+returns-in_err-check-clause-result_value c =
+    ap count_answer (returns-in_err-check-clause-value c) ∙ answers c.args.catalogue.now c.args.floor _
 
 pub returns-clause-value : goal.returns-clause-value
 returns-clause-value c =
     let a = c.args in
-    let v = checked-valid _ _ (sym c.in_ok-n.ensures.value) in
-    let e = lent-stars _ _ _ c.stars-numbers.ensures v.1 v.0 in
+    let v = checked-valid _ _ (sym c.in_ok-check.ensures.value) in
+    let e = c.all.ensures ∙ c.of-stars.ensures in
     c.build_from.ensures.value
     ∙ (λ i. built_from (e i) (to_z-of_z w64 a.floor c.ranges.floor i) (length a.room.now))
     ∙ sym (valid-built a.catalogue.now a.floor v.0 (length a.room.now))
@@ -57,8 +41,8 @@ returns-clause-value c =
 pub returns-clause-room_after : goal.returns-clause-room_after
 returns-clause-room_after c =
     let a = c.args in
-    let v = checked-valid _ _ (sym c.in_ok-n.ensures.value) in
-    let e = lent-stars _ _ _ c.stars-numbers.ensures v.1 v.0 in
+    let v = checked-valid _ _ (sym c.in_ok-check.ensures.value) in
+    let e = c.all.ensures ∙ c.of-stars.ensures in
     c.build_from.ensures.room_after
     ∙ (λ i. room_from (e i) (to_z-of_z w64 a.floor c.ranges.floor i) a.room.now)
     ∙ sym (valid-room a.catalogue.now a.floor v.0 a.room.now)

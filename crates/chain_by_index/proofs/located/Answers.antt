@@ -5,7 +5,6 @@ use mir.ValLaws.{to_z-of_z}
 use Rattle.frame_list.specs.declared.Report.{Report}
 use Rattle.vectors.specs.Triples.{Listed}
 use Rattle.catalogue.specs.Stars.{stars_of}
-use Rattle.catalogue.specs.Lent.{lent-stars}
 use Rattle.catalogue_index.specs.Index.{index_of}
 use Rattle.catalogue_index.specs.BuildLaws.{valid-listed}
 use Rattle.ranking_by_index.specs.Call.{call}
@@ -32,12 +31,12 @@ room-is report bytes index floor s room r i f d t e =
 
 pub rank_right-requires-clause-listed : goal.rank_right-requires-clause-listed
 rank_right-requires-clause-listed c =
-    let t = lent-stars _ _ _ c.stars-stars.ensures c.records-stars_end.ensures c.requires.ready.catalogue in
+    let t = c.all.ensures ∙ c.of-stars.ensures in
     subst (Listed 512) (sym t) (valid-listed _ c.requires.ready.catalogue)
 
 pub rank_right-requires-clause-index_value : goal.rank_right-requires-clause-index_value
 rank_right-requires-clause-index_value c =
-    let t = lent-stars _ _ _ c.stars-stars.ensures c.records-stars_end.ensures c.requires.ready.catalogue in
+    let t = c.all.ensures ∙ c.of-stars.ensures in
     c.requires.index_value ∙ (λ i. index_of (sym t i) (sym (to_z-of_z w64 c.args.floor c.ranges.floor) i))
 
 pub returns-clause-room_after : goal.returns-clause-room_after
@@ -45,7 +44,7 @@ returns-clause-room_after c =
     let a = c.args in
     let r = c.requires.ready in
     let front = (padded-lent a.sighting.report _ a.bytes.now _ r.few r.size c.requires.directions_value).front in
-    let t = lent-stars _ _ _ c.stars-stars.ensures c.records-stars_end.ensures r.catalogue in
+    let t = c.all.ensures ∙ c.of-stars.ensures in
     room-is a.sighting.report a.bytes.now a.index.now a.floor a.settings a.room.now r c.requires.index_value c.ranges.floor (c.sights.ensures ∙ front) t
     c.rank_right.ensures.room_after
 
@@ -54,7 +53,7 @@ identified-requires c =
     let a = c.args in
     let r = c.requires.ready in
     let front = (padded-lent a.sighting.report _ a.bytes.now _ r.few r.size c.requires.directions_value).front in
-    let t = lent-stars _ _ _ c.stars-stars.ensures c.records-stars_end.ensures r.catalogue in
+    let t = c.all.ensures ∙ c.of-stars.ensures in
     let ranked = room-is a.sighting.report a.bytes.now a.index.now a.floor a.settings a.room.now r c.requires.index_value c.ranges.floor
     (c.sights.ensures ∙ front) t c.rank_right.ensures.room_after in
     record { before = a.room.now; ready = r; sights = c.sights-2.ensures ∙ front; ranked = ranked }

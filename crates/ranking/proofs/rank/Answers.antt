@@ -1,39 +1,26 @@
 -- The first refusal, or the ranking of the decoded stars; the third promise follows from the first.
-use Rattle.std.proofs.Common.{ℕ, ◌*◌, List, ◌++◌, ℤ, drop, sym, ap, ◌∙◌, length-take-le}
+use Rattle.std.proofs.Common.{ℕ, ◌*◌, List, ◌++◌, ℤ, drop, sym, ap, ◌∙◌}
 use Rattle.std.proofs.lemmas.Result.{err_from_is_err_and}
 use Rattle.refusal.specs.Answer.{answer_of}
 use Rattle.catalogue.specs.Stars.{stars_of}
-use Rattle.catalogue.specs.Lent.{lent-within, lent-stars}
 use Rattle.vectors.specs.Triples.{triples}
 use Rattle.ranking.specs.Ranking.{ranking_of}
 use Rattle.ranking.specs.Room.{rank_outcome_of}
 use Rattle.ranking.specs.RoomLaws.{answers, accepted-sound, stars-counted, stars-listed, directions-listed, room-kept, room-written}
 use Rattle.ranking.proofs.rank.Goals as goal
 
-pub slice_bounds-numbers-end : goal.slice_bounds-numbers-end
-unfolding rank_outcome_of
-slice_bounds-numbers-end c =
-    let s = accepted-sound _ _ _ _ (sym c.in_ok-first_refusal.ensures) in
-    lent-within _ _ _ c.stars-numbers.ensures c.records-end.ensures s.catalogue
-
-pub slice_bounds-ballot-end : goal.slice_bounds-ballot-end
-unfolding rank_outcome_of
-slice_bounds-ballot-end c =
-    let s = accepted-sound _ _ _ _ (sym c.in_ok-first_refusal.ensures) in
-    sym (length-take-le _ _ (lent-within _ _ _ c.stars-numbers.ensures c.records-end.ensures s.catalogue))
-
 pub invariant_of-ballot : goal.invariant_of-ballot
 unfolding rank_outcome_of
 invariant_of-ballot c =
     let s = accepted-sound _ _ _ _ (sym c.in_ok-first_refusal.ensures) in
-    let lent = lent-stars _ _ _ c.stars-numbers.ensures c.records-end.ensures s.catalogue in
+    let lent = c.all.ensures ∙ c.of-stars.ensures in
     record { listed = directions-listed _ _ _ _ s; listed_2 = rw lent (stars-listed _ _ _ _ s) }
 
 pub write_ranking-requires-clause-stars_in_bounds : goal.write_ranking-requires-clause-stars_in_bounds
 unfolding rank_outcome_of
 write_ranking-requires-clause-stars_in_bounds c =
     let s = accepted-sound _ _ _ _ (sym c.in_ok-first_refusal.ensures) in
-    let lent = lent-stars _ _ _ c.stars-numbers.ensures c.records-end.ensures s.catalogue in
+    let lent = c.all.ensures ∙ c.of-stars.ensures in
     let words = ap (λ (n : ℕ). triples c.args.directions.now * n) (stars-counted _ _ _ _ s) in
     rw (lent, words) s.room
 
@@ -64,7 +51,7 @@ returns-clause-room_after c =
     let a = c.args in
     let e = sym c.in_ok-first_refusal.ensures in
     let s = accepted-sound _ _ _ _ e in
-    let lent = lent-stars _ _ _ c.stars-numbers.ensures c.records-end.ensures s.catalogue in
+    let lent = c.all.ensures ∙ c.of-stars.ensures in
     let words = ap (λ (n : ℕ). triples a.directions.now * n) (stars-counted _ _ _ _ s) in
     let written : List ℤ → ℕ → List ℕ = λ stars m. ranking_of a.directions.now stars a.tolerance ++ drop m a.room.now in
     c.write_ranking.ensures ∙ ap (λ (stars : List ℤ). written stars (triples a.directions.now * triples stars)) lent

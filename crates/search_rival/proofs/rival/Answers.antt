@@ -1,12 +1,10 @@
 -- The search's own refusal, or the first rival of its answer over the decoded stars.
 use Rattle.std.proofs.Common.{◌≡◌, List, ℤ, ℕ, sym, ap, subst, ◌∙◌}
-use lib.Seq.{length-take-le}
 use Rattle.catalogue.specs.Stars.{stars_of}
-use Rattle.catalogue.specs.Lent.{lent-within, lent-stars}
 use Rattle.search_fit.specs.Fit.{setup_of}
 use Rattle.search_backtrack.specs.Input.{Input}
 use Rattle.search.specs.declared.Identification.{Identification}
-use Rattle.search.proofs.Answers.{valid, handed}
+use Rattle.search.proofs.Answers.{handed}
 use Rattle.search_rival.specs.declared.Contest.{Contest}
 use Rattle.search_rival.specs.Contested.{FirstRival, Contested, contest_of}
 use Rattle.search_rival.proofs.Answers.{none-refuses, contested, refused-contested, judged-contested}
@@ -21,21 +19,12 @@ both : (directions : List ℤ) (bytes : List ℕ) (needed tolerance : ℕ) (ws :
     → Contested directions bytes needed tolerance ws r × (r ≡ contest_of directions bytes needed tolerance ws)
 both directions bytes needed tolerance ws r h = (h, contested directions bytes needed tolerance ws r h)
 
-pub slice_bounds-numbers-end : goal.slice_bounds-numbers-end
-slice_bounds-numbers-end c =
-    lent-within _ _ _ c.stars-numbers.ensures c.records-end.ensures
-    (valid _ _ _ _ _ (none-refuses _ _ _ _ _ (same_outcome c.search-identification.ensures.1 ∙ c.in_default.is)))
-
-pub slice_bounds-first_rival-end : goal.slice_bounds-first_rival-end
-slice_bounds-first_rival-end c = sym (length-take-le _ _ (lent-within _ _ _ c.stars-numbers.ensures c.records-end.ensures
-    (valid _ _ _ _ _ (none-refuses _ _ _ _ _ (same_outcome c.search-identification.ensures.1 ∙ c.in_default.is)))))
-
 pub first_rival-answer-requires : goal.first_rival-answer-requires
 first_rival-answer-requires c =
     let a = c.args in
     let e = none-refuses _ _ _ _ _ (same_outcome c.search-identification.ensures.1 ∙ c.in_default.is) in
     subst (λ (stars : List ℤ). Input (setup_of a.directions.now stars a.needed a.tolerance) a.ranking.now a.directions.now stars)
-    (sym (lent-stars _ _ _ c.stars-numbers.ensures c.records-end.ensures (valid _ _ _ _ _ e)))
+    (sym (c.all.ensures ∙ c.of-stars.ensures))
     (handed _ _ _ _ _ e)
 
 pub returns-in-Err : goal.returns-in-Err
@@ -53,5 +42,5 @@ returns c =
     a.ranking.now a.directions.now (stars_of a.catalogue.now) c.first_rival-answer.result) s.ensures.1
     (subst (λ (stars : List ℤ). FirstRival (setup_of a.directions.now stars a.needed a.tolerance) s.result.stars
     a.ranking.now a.directions.now stars c.first_rival-answer.result)
-    (lent-stars _ _ _ c.stars-numbers.ensures c.records-end.ensures (valid _ _ _ _ _ (none-refuses _ _ _ _ _ e)))
+    (c.all.ensures ∙ c.of-stars.ensures)
     c.first_rival-answer.ensures))))

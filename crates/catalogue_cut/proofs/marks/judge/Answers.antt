@@ -6,7 +6,6 @@ use mir.Val.{to_z, of_z}
 use mir.ValLaws.{to_z-of_z}
 use Rattle.vectors.specs.Triples.{Listed}
 use Rattle.catalogue.specs.Stars.{stars_of}
-use Rattle.catalogue.specs.Lent.{lent-stars}
 use Rattle.catalogue_cut.specs.Flight.{is_bright}
 use Rattle.catalogue_cut.specs.marks.Number.{numbers_of}
 use Rattle.catalogue_cut.specs.marks.Marks.{faint_mark, AllLooked}
@@ -15,14 +14,14 @@ use Rattle.catalogue_cut.proofs.marks.judge.Goals as goal
 
 pub invariant_of-pairs : goal.invariant_of-pairs
 invariant_of-pairs c = record {
-  listed = subst (Listed 512) (sym (lent-stars _ _ _ c.stars-numbers.ensures c.records-end.ensures c.requires)) (valid-listed c.args.bytes.now c.requires);
+  listed = subst (Listed 512) (sym (c.all.ensures ∙ c.of-stars.ensures)) (valid-listed c.args.bytes.now c.requires);
 }
 
 pub returns : goal.returns
 returns c =
     let x = c.args in
     let m = c.magnitudes-marks in
-    let lent = lent-stars _ _ _ c.stars-numbers.ensures c.records-end.ensures c.requires in
+    let lent = c.all.ensures ∙ c.of-stars.ensures in
     let y = to_z-of_z w32 x.limit c.ranges.limit in
     let z = to_z-of_z w64 x.closeness c.ranges.closeness in
     let before = numbers_of m.result in
