@@ -10,6 +10,7 @@ use catalogue_compare::CHANGE_SIZE;
 pub const ROOM: usize = 32768;
 
 // The word for what the list says, and the identity.
+// Stays: a kind is a `u32` of the list's bytes and no enum: `change_label` has a line for each number that may stand there, and only 1, 2 and 3 are kinds.
 fn label(room: &mut [u8], at: usize, identity: u32, kind: u32) -> usize
     ensures wrote { Wrote room.old at (change_label identity kind) room.new result }
     ensures upper_bound { result ≤ at + 28 }
@@ -34,15 +35,13 @@ fn lines(room: &mut [u8], list: &[u8]) -> usize
     ensures wrote { Wrote room.old 0 (lines_of list.now) room.new result }
     ensures upper_bound { result ≤ 29 * (length list.now / 8) }
 {
-    let records = list.len() / CHANGE_SIZE;
     let mut next = 0;
-    for k in 0..records {
-        let at = CHANGE_SIZE * k;
+    for record in list.chunks_exact(CHANGE_SIZE) {
         next = line(
             room,
             next,
-            words::u32_at(list, at),
-            words::u32_at(list, at + 4),
+            words::u32_at(record, 0),
+            words::u32_at(record, 4),
         );
     }
     next

@@ -2,8 +2,9 @@
 ghost use Rattle.std.specs.Prelude.{◌≡◌, ◌≤◌};
 ghost use Rattle.text.specs.Room.{room_with, length_in};
 ghost use Rattle.text.specs.Written.{Wrote};
-ghost use Rattle.desk_lines.specs.FileLine.{records_line, kept_line, said_line};
+ghost use Rattle.desk_lines.specs.FileLine.{said_line};
 
+use crate::worded;
 use refusal::Refusal;
 
 // What the desk has of the file.
@@ -23,31 +24,15 @@ pub enum Said {
     Kept(usize, usize),
 }
 
-fn records_line(room: &mut [u8], records: usize) -> usize
-    ensures wrote { Wrote room.old 0 (records_line records) room.new result }
-    ensures upper_bound { result ≤ 72 }
-{
-    let end = text::labelled(room, 0, b"records ", records as u64);
-    text::word(room, end, b"\n")
-}
-
-fn kept_line(room: &mut [u8], kept: usize, records: usize) -> usize
-    ensures wrote { Wrote room.old 0 (kept_line kept records) room.new result }
-    ensures upper_bound { result ≤ 72 }
-{
-    let first = text::labelled(room, 0, b"kept ", kept as u64);
-    let second = text::labelled(room, first, b" of ", records as u64);
-    text::word(room, second, b"\n")
-}
-
+#[tactic(auto, unfolding(crate::specs::FileLine::records_line, crate::specs::FileLine::kept_line))]
 fn line(room: &mut [u8], said: Said) -> usize
     ensures wrote { Wrote room.old 0 (said_line said) room.new result }
     ensures upper_bound { result ≤ 72 }
 {
     match said {
         Said::Refused(r) => text::refused(room, 0, r),
-        Said::Records(n) => records_line(room, n),
-        Said::Kept(n, records) => kept_line(room, n, records),
+        Said::Records(n) => worded::one(room, b"records ", n as u64),
+        Said::Kept(n, records) => worded::two(room, b"kept ", n as u64, b" of ", records as u64),
     }
 }
 

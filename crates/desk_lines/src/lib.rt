@@ -6,6 +6,7 @@ pub mod cut;
 pub mod file_line;
 pub mod index;
 mod pixel;
+mod worded;
 
 pub use pixel::why;
 

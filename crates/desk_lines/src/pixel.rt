@@ -1,23 +1,14 @@
 // Why a pixel is not a star: the line for a settings file, a frame file, a row and a column.
-ghost use Rattle.std.specs.Prelude.{◌≡◌, ◌+◌, ◌≤◌, length};
+ghost use Rattle.std.specs.Prelude.{◌≡◌, ◌≤◌};
 ghost use Rattle.text.specs.Room.{room_with, length_in};
 ghost use Rattle.text.specs.Written.{Wrote};
-ghost use Rattle.desk_lines.specs.Why.{pair_line, side_line, lone_line, measured_line, reason_line, explanation_line, explained_with, why_text};
+ghost use Rattle.desk_lines.specs.Why.{side_line, measured_line, reason_line, explanation_line, explained_with, why_text};
 
+use crate::worded;
 use chain::Settings;
 use frame_centroid::Centroid;
 use frame_reason::{Reason, Side};
 use refusal::Refusal;
-
-// A word and two numbers.
-fn pair(room: &mut [u8], word: &[u8], a: u64, b: u64) -> usize
-    ensures wrote { Wrote room.old 0 (pair_line word.now a b) room.new result }
-    ensures upper_bound { result ≤ length word.now + 42 }
-{
-    let first = text::labelled(room, 0, word, a);
-    let second = text::labelled(room, first, b" ", b);
-    text::word(room, second, b"\n")
-}
 
 fn side_line(room: &mut [u8], side: Side) -> usize
     ensures wrote { Wrote room.old 0 (side_line side) room.new result }
@@ -31,14 +22,7 @@ fn side_line(room: &mut [u8], side: Side) -> usize
     }
 }
 
-fn lone(room: &mut [u8], largest: u64) -> usize
-    ensures wrote { Wrote room.old 0 (lone_line largest) room.new result }
-    ensures upper_bound { result ≤ 26 }
-{
-    let number = text::labelled(room, 0, b"lone ", largest);
-    text::word(room, number, b"\n")
-}
-
+// Stays: beside `place` of `listing`, which puts the same three numbers: neither crate rests on the other, and `text` below both knows no star.
 fn measured(room: &mut [u8], star: Centroid) -> usize
     ensures wrote { Wrote room.old 0 (measured_line star) room.new result }
     ensures upper_bound { result ≤ 72 }
@@ -49,15 +33,20 @@ fn measured(room: &mut [u8], star: Centroid) -> usize
     text::word(room, brightness, b"\n")
 }
 
+#[tactic(auto, unfolding(crate::specs::Why::pair_line, crate::specs::Why::lone_line))]
 fn reason_line(room: &mut [u8], reason: Reason) -> usize
     ensures wrote { Wrote room.old 0 (reason_line reason) room.new result }
     ensures upper_bound { result ≤ 72 }
 {
     match reason {
-        Reason::Dark(sample, threshold) => pair(room, b"dark ", sample as u64, threshold as u64),
-        Reason::Beaten(row, column) => pair(room, b"beaten ", row as u64, column as u64),
+        Reason::Dark(sample, threshold) => {
+            worded::two(room, b"dark ", sample as u64, b" ", threshold as u64)
+        }
+        Reason::Beaten(row, column) => {
+            worded::two(room, b"beaten ", row as u64, b" ", column as u64)
+        }
         Reason::Edge(side) => side_line(room, side),
-        Reason::Lone(largest) => lone(room, largest as u64),
+        Reason::Lone(largest) => worded::one(room, b"lone ", largest as u64),
         Reason::Measured(star) => measured(room, star),
     }
 }

@@ -1,13 +1,16 @@
 -- A word as a signed number, by its first byte; and the decimal of a signed number reads back as that number. Assumes nothing.
 use Rattle.std.specs.Prelude.{Bool, true, false, cond, ◌≡◌, refl, List, [], ◌∷◌, map, ℕ, suc, ◌≤◌, ◌<◌, ltb, eqb, ℤ, pos, negsuc, neg_ℤ, length, drop, get_or}
-use Rattle.std.proofs.Common.{ap, ◌∙◌, arith, lt-ltb, le-ltb, eq-eqb, ne_eqb}
+use Rattle.std.proofs.Common.{sym, ap, ◌∙◌, arith, lt-ltb, le-ltb, eq-eqb, ne_eqb, w64, FitsSigned}
+use Rattle.std.proofs.Math.Decide.{dec_lt}
 use Rattle.std.specs.Int.Signed.{mag}
 use Rattle.text.specs.Decimal.{decimal, signed_decimal}
 use Rattle.text.specs.DecimalLaws.{is-decimal}
 use Rattle.text.specs.Parse.{parsed_of, numbers_of as sizes_of, numbers_for as sizes_for}
 use Rattle.text.specs.Sign.{fitting, positive_of, negative_of, parsed_signed_of, numbers_of, held, numbers_for}
 use Rattle.text.specs.ParseLaws.{decimal-parsed, told as sizes-told}
-use Rattle.std.specs.Prelude.{Option, Some, None}
+use Rattle.std.specs.Prelude.{Option, Some, None, Result, Ok, Err}
+use Rattle.std.specs.Option.{SomeIff}
+use Rattle.std.specs.Result.{OkIff, result_ok}
 
 pub fits : (z : ℤ) → mag z < 9223372036854775808 → fitting z ≡ Some z
 unfolding fitting
@@ -16,6 +19,19 @@ fits z h = rw (lt-ltb (mag z) 9223372036854775808 h)
 pub too_far : (z : ℤ) → 9223372036854775808 ≤ mag z → fitting z ≡ None
 unfolding fitting
 too_far z h = rw (le-ltb (mag z) 9223372036854775808 h)
+
+-- so a number that std has where 64 bits hold it
+pub fitted : (r : Option ℤ) (z : ℤ) → SomeIff r (FitsSigned w64 z) z → r ≡ fitting z
+fitted (Some x) z h = ap (λ (y : ℤ). Some y) h.1 ∙ sym (fits z h.0.sfits)
+fitted None z h = by (dec_lt (mag z) 9223372036854775808)
+  where
+    by : Dec (mag z < 9223372036854775808) → None ≡ fitting z
+    by (yes l) = absurd (h (record { sfits = l }))
+    by (no l) = sym (too_far z (omega arith))
+
+pub converted : {E : Type 0} (r : Result ℤ E) (z : ℤ) → OkIff r (FitsSigned w64 z) z → result_ok r ≡ fitting z
+converted (Ok x) z h = fitted (Some x) z h
+converted (Err e) z h = fitted None z h
 
 pub empty-read : (word : List ℕ) → length word ≡ 0 → parsed_signed_of word ≡ None
 unfolding parsed_signed_of

@@ -1,6 +1,6 @@
 // Lines of text as bytes in a lent room: words and numbers in decimal, one behind the other. A place is handed in and the next one comes back, so a line is a
 // run of calls. What does not fit is cut at the room's end. And the way back: a word as a number, with a sign or without.
-// Stays: a room and a place, and no writer that holds both (a): the clause `Wrote` of each public function names the room and the place that it is handed.
+// Stays: a room and a place, and no writer that holds both: the clause `Wrote` of each public function names the room and the place that it is handed.
 #![tactic(auto)]
 
 mod parse;
@@ -39,7 +39,7 @@ pub fn word(room: &mut [u8], at: usize, bytes: &[u8]) -> usize
 }
 
 // Puts a number at a place, in decimal. Its tenth stands before its last digit.
-// Stays: digit by digit and no `write!` (d): this is `decimal` in five lines, and `write!` wants a writer over the room that cuts at its end.
+// Stays: digit by digit and no `write!`: this is `decimal` in five lines, and `write!` wants a writer over the room that cuts at its end.
 pub fn number(room: &mut [u8], at: usize, n: u64) -> usize
     ensures wrote { Wrote room.old at (decimal n) room.new result }
     ensures upper_bound { result ≤ at + 20 }

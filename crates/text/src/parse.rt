@@ -2,26 +2,16 @@
 ghost use Rattle.std.specs.Prelude.{◌≡◌, [], ◌∷◌};
 ghost use Rattle.text.specs.Parse.{parsed_from, parsed_of, numbers_of, numbers_for};
 
-const LARGEST: usize = 0xffff_ffff_ffff_ffff;
-
-// The value with one digit more. Its fit is tested before it is worked out.
-// Stays: tests and no `checked_mul`: the edits colon_taken_for_a_digit, number_wraps and largest_number_refused turn them.
+// The value with one digit more, where the byte is a digit and 64 bits hold what comes out.
 #[tactic(auto, unfolding(crate::specs::Parse::parsed_from, crate::specs::Parse::all_digits, crate::specs::Parse::is_digit, crate::specs::Parse::value_from))]
 fn with_digit(value: usize, byte: u8) -> Option<usize>
     ensures { result ≡ parsed_from value (byte ∷ []) }
 {
-    if byte < b'0' {
-        return None;
-    }
-    let is_above = b'9' < byte;
-    if is_above {
+    if !byte.is_ascii_digit() {
         return None;
     }
     let digit = (byte - b'0') as usize;
-    if (LARGEST - digit) / 10 < value {
-        return None;
-    }
-    Some(10 * value + digit)
+    value.checked_mul(10)?.checked_add(digit)
 }
 
 // The number that a word spells in decimal. An empty word, one with another character and one whose value does not fit are no number.

@@ -4,33 +4,18 @@ ghost use Rattle.text.specs.Sign.{positive_of, negative_of, parsed_signed_of, nu
 
 use crate::parse::parse_number;
 
-// 2^63: no signed number of 64 bits is as large, and the least one has this size.
-const HALF: usize = 0x8000_0000_0000_0000;
-
 // A size without a sign.
 fn positive(size: Option<usize>) -> Option<i64>
     ensures { result ≡ positive_of size }
 {
-    let n = size?;
-    if HALF <= n {
-        return None;
-    }
-    Some(n as i64)
+    i64::try_from(size?).ok()
 }
 
 // A size behind a "-".
 fn negative(size: Option<usize>) -> Option<i64>
     ensures { result ≡ negative_of size }
 {
-    let n = size?;
-    let is_large = HALF < n;
-    if is_large {
-        return None;
-    }
-    if n == 0 {
-        return Some(0);
-    }
-    Some(numbers::negative((n - 1) as u64))
+    0i64.checked_sub_unsigned(size? as u64)
 }
 
 // The signed number that a word spells in decimal, with a "-" in front where it is below zero.

@@ -2,22 +2,11 @@
 ghost use Rattle.std.specs.Prelude.{◌≡◌};
 ghost use Rattle.desk_lines.specs.cut.Limit.{limit_for, limit_of, numbers_of, numbers_for};
 
-const LEAST: i64 = -2147483648;
-
-const GREATEST: i64 = 2147483647;
-
 // A number, if 32 bits hold it.
-// Stays: two tests and no `i32::try_from`: the edits least_limit_refused and limit_beyond_32_bits turn the two bounds.
 fn narrow(z: i64) -> Option<i32>
     ensures { result ≡ limit_for z }
 {
-    if z < LEAST {
-        return None;
-    }
-    if GREATEST < z {
-        return None;
-    }
-    Some(z as i32)
+    i32::try_from(z).ok()
 }
 
 // The number that a word spells in decimal, with a "-" in front where it is below zero.
