@@ -71,8 +71,8 @@ pub fn read_samples(bytes: &[u8], width: usize, height: usize, room: &mut [u16])
     if is_short {
         return 0;
     }
-    for i in 0..count {
-        room[i] = words::u16_at(bytes, 2 * i);
+    for (i, sample) in room[..count].iter_mut().enumerate() {
+        *sample = words::u16_at(bytes, 2 * i);
     }
     count
 }
