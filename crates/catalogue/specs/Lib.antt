@@ -12,4 +12,5 @@ pub mod Stars
 pub mod StarsLaws
 pub mod Filled
 pub mod ValidStars
+pub mod Lent
 pub mod Alike
