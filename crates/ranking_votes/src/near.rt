@@ -37,7 +37,7 @@ fn greatest(lifted: u64, tolerance: u64) -> u64
 }
 
 // Marks the places of all products that agree with q.
-// Stays: a mark is the number 1 and no bool, since the definition `Marks` of specs/Near says so of the table.
+// Stays: a mark is the number 1 and no bool, since the laws `marks-more` and `none-near` of specs/NearLaws speak of a table of any numbers.
 fn mark(near: &mut [u8], q: i64, tolerance: u64)
     requires near_len { length near.old ≡ 5330 }
     requires within { Within 3000000000000000000 q }

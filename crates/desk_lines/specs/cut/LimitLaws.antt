@@ -1,9 +1,10 @@
--- Which numbers 32 bits hold, as std turns one of 64 bits into one of 32. Assumes nothing.
-use Rattle.std.specs.Prelude.{Bool, true, false, cond, List, [], ◌∷◌, ◌≡◌, refl, ℕ, ◌<◌, ◌≤◌, ltb, ℤ}
-use Rattle.std.proofs.Common.{sym, ap, ◌∙◌, arith, lt-ltb, le-ltb, w32, FitsSigned}
+-- Which numbers 32 bits hold, one test at a time, as the code meets them. Assumes nothing.
+use Rattle.std.specs.Prelude.{Bool, true, false, cond, List, [], ◌∷◌, ◌≡◌, refl, ℕ, ◌<◌, ◌≤◌, ltb, ℤ, pos, negsuc}
+use Rattle.std.proofs.Common.{sym, ap, ◌∙◌, arith, ltb-true, ltb-false, lt-ltb, le-ltb, w32, FitsSigned}
 use Rattle.std.proofs.Math.Decide.{dec_lt}
-use Rattle.std.specs.Int.Signed.{mag}
+use Rattle.std.specs.Int.Signed.{mag, lt_z}
 use Rattle.std.specs.Result.{OkIff, result_ok}
+use Rattle.lists.specs.Contradiction.{contradiction}
 use Rattle.text.specs.Sign as sign
 use Rattle.text.specs.Sign.{parsed_signed_of}
 use Rattle.text.specs.SignLaws.{told as signed-told}
@@ -14,7 +15,19 @@ far : (z : ℤ) → 2147483648 ≤ mag z → limit_for z ≡ None
 unfolding limit_for
 far z h = rw (le-ltb (mag z) 2147483648 h)
 
-near : (z : ℤ) → mag z < 2147483648 → limit_for z ≡ Some z
+pub too-low : (z : ℤ) → lt_z z (negsuc 2147483647) ≡ true → limit_for z ≡ None
+too-low (pos n) e = contradiction e
+too-low (negsuc n) e = far (negsuc n) (omega (arith, ltb-true 2147483647 n e))
+
+pub too-high : (z : ℤ) → lt_z (pos 2147483647) z ≡ true → limit_for z ≡ None
+too-high (pos n) e = far (pos n) (omega (arith, ltb-true 2147483647 n e))
+too-high (negsuc n) e = contradiction e
+
+pub held : (z : ℤ) → lt_z z (negsuc 2147483647) ≡ false → lt_z (pos 2147483647) z ≡ false → mag z < 2147483648
+held (pos n) e d = omega (arith, ltb-false 2147483647 n d)
+held (negsuc n) e d = omega (arith, ltb-false 2147483647 n e)
+
+pub near : (z : ℤ) → mag z < 2147483648 → limit_for z ≡ Some z
 unfolding limit_for
 near z h = rw (lt-ltb (mag z) 2147483648 h)
 
