@@ -24,10 +24,13 @@ impl Stars {
     pub fn of(bytes: &[u8]) -> Stars
         ensures { result ≡ stars_of bytes.now }
     {
-        Stars {
-            numbers: crate::stars(bytes),
+        // Filled where it stands: an array of its own would be copied into it.
+        let mut stars = Stars {
+            numbers: [0; 1536],
             count: 3 * crate::stars_in(bytes),
-        }
+        };
+        crate::fill(bytes, &mut stars.numbers);
+        stars
     }
 
     // All of them, three numbers each.

@@ -5,7 +5,7 @@ pub mod decoded;
 mod format;
 mod rule;
 
-ghost use Rattle.std.specs.Prelude.{◌≡◌};
+ghost use Rattle.std.specs.Prelude.{◌≡◌, pos, replicate};
 ghost use Rattle.refusal.specs.Counted.{count_answer};
 ghost use Rattle.catalogue.specs.Format.{records_in};
 ghost use Rattle.catalogue.specs.Check.{length_ok, checked_of, answer_for};
@@ -62,16 +62,24 @@ fn stars_in(bytes: &[u8]) -> usize
     records(bytes).min(MOST_RECORDS)
 }
 
-// The stars of a catalogue as numbers, x, y and z of each in turn, with zeros behind the last.
-pub fn stars(bytes: &[u8]) -> [i32; 1536]
-    ensures { result ≡ padded (stars_of bytes.now) }
+// Writes the stars over zeros, x, y and z of each in turn.
+fn fill(bytes: &[u8], numbers: &mut [i32])
+    requires { numbers.old ≡ replicate 1536 (pos 0) }
+    ensures { numbers.new ≡ padded (stars_of bytes.now) }
 {
     let count = 3 * stars_in(bytes);
-    // Stays: the whole array by value, since memory is fixed and `padded` promises the zeros. `decoded::Stars` keeps it beside its count.
-    let mut numbers = [0; 1536];
     for k in 0..count {
         numbers[k] = Record { bytes, i: k / 3 }.component(k % 3);
     }
+}
+
+// The stars of a catalogue as numbers, x, y and z of each in turn, with zeros behind the last.
+// Stays: the whole array by value, since memory is fixed and `padded` promises the zeros. `decoded::Stars` keeps it beside its count.
+pub fn stars(bytes: &[u8]) -> [i32; 1536]
+    ensures { result ≡ padded (stars_of bytes.now) }
+{
+    let mut numbers = [0; 1536];
+    fill(bytes, &mut numbers);
     numbers
 }
 

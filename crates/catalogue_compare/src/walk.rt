@@ -20,6 +20,7 @@ pub(crate) fn count(first: &[u8], second: &[u8]) -> usize
     let mut found = 0;
     let mut i = 0;
     let mut j = 0;
+    // Stays: a `while let`, since a step moves one of two places or both, and no range or iterator of std goes so; this walk counts and `write`'s writes.
     while let Some(s) = step::advance(first, second, i, j) {
         if s.change.is_some() {
             found += 1;
@@ -54,6 +55,7 @@ pub(crate) fn write(first: &[u8], second: &[u8], room: &mut [u8])
     let mut found = 0;
     let mut i = 0;
     let mut j = 0;
+    // Stays: the walk of `count` once more, for the same reason. It has the room, and how much is written, where `count` needs neither.
     while let Some(s) = step::advance(first, second, i, j) {
         found = put(room, found, s);
         i = s.first;

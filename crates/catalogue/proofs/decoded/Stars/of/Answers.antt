@@ -7,4 +7,4 @@ use Rattle.catalogue.proofs.decoded.Stars.of.Goals as goal
 pub returns : goal.returns
 returns c =
     let bytes = c.args.bytes.now in
-    rw (c.stars.ensures, c.stars_in.ensures) (padded-front (stars_of bytes) _ (stars-length bytes))
+    rw (c.fill.ensures, c.stars_in.ensures) (padded-front (stars_of bytes) _ (stars-length bytes))

@@ -5,10 +5,10 @@ use Rattle.numbers.specs.Num.{kept}
 use Rattle.catalogue.specs.Stars.{stars_of}
 use Rattle.catalogue.specs.StarsLaws.{stars-length, number_at}
 use Rattle.catalogue.specs.Filled.{filled_none, filled_next, filled-all}
-use Rattle.catalogue.proofs.stars.Goals as goal
+use Rattle.catalogue.proofs.fill.Goals as goal
 
 pub loop-k-init : goal.loop-k-init
-loop-k-init c = filled_none _
+loop-k-init c = c.requires ∙ filled_none _
 
 pub loop-k-preserved : goal.loop-k-preserved
 loop-k-preserved c =
