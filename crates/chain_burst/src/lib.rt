@@ -55,6 +55,7 @@ fn track_frames(
     ensures records_after { records.new ≡ records_of catalogue.now settings (frames_of size samples.now count) room.old
         ++ drop (record_size * count) records.old }
 {
+    // Stays: a range and no `chunks_exact`, since the edit one_record_beyond goes one frame too far.
     for k in 0..count {
         let from = k * size;
         let tracked = chain::track(&samples[from..from + size], catalogue, settings, room);
