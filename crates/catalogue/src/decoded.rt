@@ -1,28 +1,19 @@
 // The stars of a catalogue as numbers, decoded once and lent from there.
-ghost use Rattle.std.specs.Prelude.{◌≡◌, ◌≤◌, List, ℤ, take};
+ghost use Rattle.std.specs.Prelude.{◌≡◌, ◌≤◌, take};
 ghost use Rattle.catalogue.specs.Stars.{stars_of};
 
-use std::marker::Model;
-
-// The stars, x, y and z of each in turn. A caller sees that list, and neither the array nor the zeros behind its count.
+// The stars, x, y and z of each in turn, with zeros behind the last.
 #[derive(Drop)]
 pub struct Stars {
     numbers: [i32; 1536],
     count: usize,
-}
-
-impl Model for Stars {
-    ghost Value = { List ℤ };
-
-    ghost view = { λ stars. take stars.count stars.numbers };
-
-    ghost invariant = { λ stars. stars.count ≤ 1536 };
+    ghost inside: { count ≤ 1536 },
 }
 
 impl Stars {
     // Those of a catalogue.
     pub fn of(bytes: &[u8]) -> Stars
-        ensures { result ≡ stars_of bytes.now }
+        ensures { take result.count result.numbers ≡ stars_of bytes.now }
     {
         // Filled where it stands: an array of its own would be copied into it.
         let mut stars = Stars {
@@ -35,7 +26,7 @@ impl Stars {
 
     // All of them, three numbers each.
     pub fn all(&self) -> &[i32]
-        ensures { result.now ≡ self.now }
+        ensures { result.now ≡ take self.now.count self.now.numbers }
     {
         &self.numbers[..self.count]
     }

@@ -45,7 +45,14 @@ fn start(file: &mut File, half: i64, bytes: &mut [u8]) -> [i64; 18] {
 
 // The start, and the frames one after the other.
 fn run(rt: &impl Print, file: &mut File) -> io::Result<()> {
-    let shot = Shot::read(file);
+    let width = word(file) as usize;
+    let height = word(file) as usize;
+    let threshold = word(file) as usize;
+    let shot = Shot {
+        width,
+        height,
+        threshold,
+    };
     let half = signed(word(file));
     let frames = word(file);
     let mut bytes = [0u8; 16384];

@@ -2,7 +2,7 @@
 // call writes to is printed as it is before the call and after it.
 ghost use Rattle.std.specs.Prelude.{◌≤◌};
 
-use crate::inputs::{Camera, Plate, bytes, directions, wholes, words};
+use crate::inputs::{Camera, Plate, bytes, directions, shot, wholes, words};
 use crate::kind::Kind;
 use crate::player::Player;
 use crate::print::{first, line, line_with_sums};
@@ -22,7 +22,7 @@ impl<P: Print> Player<'_, P> {
         requires callable { F.IsAlwaysCallable call }
         requires n_in_range { n ≤ 64 }
     {
-        let shot = Shot::read(&mut self.file);
+        let shot = shot(&mut self.file);
         let row = word(&mut self.file) as usize;
         let column = word(&mut self.file) as usize;
         let samples = words(&mut self.file, self.bytes, self.samples);
@@ -60,7 +60,7 @@ impl<P: Print> Player<'_, P> {
     }
 
     pub fn list(&mut self) -> io::Result<()> {
-        let shot = Shot::read(&mut self.file);
+        let shot = shot(&mut self.file);
         let samples = words(&mut self.file, self.bytes, self.samples);
         let mut out = [0i64; 64];
         frame::mnemathor_list(samples, shot.width, shot.height, shot.threshold, &mut out);
@@ -164,7 +164,7 @@ impl<P: Print> Player<'_, P> {
     }
 
     pub fn chain(&mut self) -> io::Result<()> {
-        let shot = Shot::read(&mut self.file);
+        let shot = shot(&mut self.file);
         let Camera { cx, cy, plate } = Camera::read(&mut self.file);
         let needed = word(&mut self.file) as usize;
         let tolerance = word(&mut self.file);
@@ -264,7 +264,7 @@ impl<P: Print> Player<'_, P> {
     }
 
     pub fn chain_by_index(&mut self) -> io::Result<()> {
-        let shot = Shot::read(&mut self.file);
+        let shot = shot(&mut self.file);
         let Camera { cx, cy, plate } = Camera::read(&mut self.file);
         let floor = signed(word(&mut self.file));
         let needed = word(&mut self.file) as usize;
@@ -303,7 +303,7 @@ impl<P: Print> Player<'_, P> {
 
     // The room for an index takes the burst's records.
     pub fn burst(&mut self) -> io::Result<()> {
-        let shot = Shot::read(&mut self.file);
+        let shot = shot(&mut self.file);
         let Camera { cx, cy, plate } = Camera::read(&mut self.file);
         let needed = word(&mut self.file) as usize;
         let tolerance = word(&mut self.file);

@@ -1,6 +1,8 @@
 // What the calls are given: numbers that go together, and buffers in rooms that are lent.
 use numbers::signed;
-use playback::{expand, float, half, read_directions, read_floats, read_wholes, read_words, word};
+use playback::{
+    Shot, expand, float, half, read_directions, read_floats, read_wholes, read_words, word,
+};
 use std::fs::File;
 
 // The lens plate: which form of it, and its two numbers.
@@ -39,6 +41,18 @@ impl Camera {
         let cy = signed(word(file));
         let plate = Plate::read(file);
         Camera { cx, cy, plate }
+    }
+}
+
+// The sides and the threshold of the next frame.
+pub fn shot(file: &mut File) -> Shot {
+    let width = word(file) as usize;
+    let height = word(file) as usize;
+    let threshold = word(file) as usize;
+    Shot {
+        width,
+        height,
+        threshold,
     }
 }
 

@@ -24,7 +24,6 @@ use frame_list::{Listing, Report};
 use guider_rule::{Guide, Guided, Guider, Sighting};
 use numbers::signed;
 use refusal::Refusal;
-use std::array;
 
 // How many numbers a guider has.
 const NUMBERS: usize = 18;
@@ -72,7 +71,12 @@ fn sighting_in(numbers: &[i64], at: usize) -> Sighting
 pub(crate) fn sightings_in(numbers: &[i64]) -> [Sighting; 4]
     ensures { result ≡ sightings_in numbers.now }
 {
-    array::from_fn(|k| sighting_in(numbers, 3 * k))
+    [
+        sighting_in(numbers, 0),
+        sighting_in(numbers, 3),
+        sighting_in(numbers, 6),
+        sighting_in(numbers, 9),
+    ]
 }
 
 fn guide_in(room: &[i64], at: usize) -> Guide
@@ -94,7 +98,12 @@ pub(crate) fn guider_in(room: &[i64]) -> Guider
     Guider {
         half: number_in(room, 0),
         count: number_in(room, 1) as usize,
-        guides: array::from_fn(|k| guide_in(room, 2 + 4 * k)),
+        guides: [
+            guide_in(room, 2),
+            guide_in(room, 6),
+            guide_in(room, 10),
+            guide_in(room, 14),
+        ],
     }
 }
 
@@ -114,7 +123,16 @@ fn report_in(list: &[i64]) -> Report
     ensures { result ≡ report_in list.now }
 {
     Report {
-        stars: array::from_fn(|k| star_in(list, STARS + 3 * k)),
+        stars: [
+            star_in(list, STARS),
+            star_in(list, STARS + 3),
+            star_in(list, STARS + 6),
+            star_in(list, STARS + 9),
+            star_in(list, STARS + 12),
+            star_in(list, STARS + 15),
+            star_in(list, STARS + 18),
+            star_in(list, STARS + 21),
+        ],
         count: number_in(list, OWN) as usize,
         measured: 0,
         edge: 0,
