@@ -55,8 +55,8 @@ pub fn checksum(room: &[u16]) -> u64
 }
 
 // The same of a room of bytes.
-// Stays: a loop of its own: the closure of a `fold` may be called at any sum, so it would reduce the sum once more against an overflow, and one function for
-// both would take the numbers by a closure and a clause that ties each to its element.
+// Stays: a loop for each kind of room: a `fold` would prove the loop's bound on the sum as what its closure asks, and one function for both would need a law
+// that ties each element of a type parameter to its number.
 pub fn bytes_checksum(room: &[u8]) -> u64
     ensures { result ≡ sum_of room.now }
 {
