@@ -13,6 +13,7 @@ use attitude::Matrix;
 use refusal::Refusal;
 
 // Three floats: a row of direction cosines, or a target direction.
+// Stays: beside `Vec3` and `Matrix`, whose numbers are whole. A type of both would put a parameter into each contract that speaks of a vector.
 #[derive(Clone, Copy)]
 pub struct Triple {
     pub x: f64,

@@ -11,7 +11,7 @@ use attitude_gimbal::Cosines;
 use refusal::Refusal;
 
 // The refusal, or nothing more: the room is the answer.
-// Stays: a match, which the check proves alone. With `map_or_else` it does not find that the numbers are `cosines_numbers`.
+// Stays: a match. `map_or_else` was tried: that the numbers are `cosines_numbers` then needs a proof by hand, which is no plainer.
 fn of_cosines(gimbal: Result<Cosines, Refusal>) -> [i64; 64]
     ensures { result ≡ cosines_numbers gimbal }
 {

@@ -53,7 +53,7 @@ pub fn of_refusal(refusal: Refusal) -> [i64; 64]
 }
 
 // The numbers of a call that is accepted, or those of its refusal.
-// Stays: a match, which the check proves alone. With `map_or_else` it does not find that the numbers are `outcome_numbers`.
+// Stays: a match. `map_or_else` was tried: that the numbers are `outcome_numbers` then needs a proof by hand, which is no plainer.
 pub fn of_outcome(outcome: Result<(), Refusal>, accepted: [i64; 64]) -> [i64; 64]
     ensures { result ≡ outcome_numbers outcome accepted }
 {

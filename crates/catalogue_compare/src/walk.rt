@@ -20,7 +20,7 @@ pub(crate) fn count(first: &[u8], second: &[u8]) -> usize
     let mut found = 0;
     let mut i = 0;
     let mut j = 0;
-    // Stays: a `while let`, since a step moves one of two places or both, and no range or iterator of std goes so; this walk counts and `write`'s writes.
+    // Stays: a `while let`, since a step moves one of two places or both. With `successors` what has been passed would stand in the clause of a closure.
     while let Some(s) = step::advance(first, second, i, j) {
         if s.change.is_some() {
             found += 1;
@@ -55,7 +55,7 @@ pub(crate) fn write(first: &[u8], second: &[u8], room: &mut [u8])
     let mut found = 0;
     let mut i = 0;
     let mut j = 0;
-    // Stays: the walk of `count` once more, for the same reason. It has the room, and how much is written, where `count` needs neither.
+    // Stays: the walk of `count` once more. One for both would take what is done at a step as a closure, with a clause over a number here and a room there.
     while let Some(s) = step::advance(first, second, i, j) {
         found = put(room, found, s);
         i = s.first;

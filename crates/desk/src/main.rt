@@ -64,7 +64,7 @@ fn show(rt: &(impl Print + Eprint), answer: &[u8]) -> io::Result<()> {
 }
 
 // Reads until the buffer is full, the file ends or a read fails, and answers how many bytes it put there.
-// Stays: `fill`, `read` and `show` are those of `mnemathor`. A library that both called would rest on std's files, and no library but the trials' does.
+// Stays: `fill`, `read` and `show` are those of `mnemathor`. `read` opens files, on which no library but the trials' rests; the other two are short and stay by it.
 fn fill(file: &mut impl Read, buffer: &mut [u8]) -> usize
     ensures { result ≤ length buffer.new }
 {

@@ -33,8 +33,8 @@ pub struct Listing {
 }
 
 // The verdict on one pixel.
-// Stays: the frame's four parameters apart, here, in `list` and in `input`, and no `Frame` of them. A `Frame` holds a sample for each of its pixels, and
-// whether these do is what `input` tests first.
+// Stays: the frame's four parameters apart, here, in `list`, in `input` and in `frame_reason::explain`, and no `Frame` of them. A `Frame` holds a sample for
+// each of its pixels, and whether these do is what `input` tests first.
 #[tactic(auto, unfolding(crate::specs::Calls::judgement_of))]
 pub fn judge(
     samples: &[u16],

@@ -18,7 +18,7 @@ const FRAME_ROOM: usize = 2 * MOST_SAMPLES + 1;
 const CATALOGUE_ROOM: usize = RECORD_SIZE * MOST_RECORDS + 1;
 
 // Reads until the buffer is full, the file ends or a read fails, and answers how many bytes it put there.
-// Stays: `fill`, `read` and `show` are the desk's too. A library that both called would rest on std's files, and no library but the trials' does.
+// Stays: `fill`, `read` and `show` are the desk's too. `read` opens files, on which no library but the trials' rests; the other two are short and stay by it.
 fn fill(file: &mut impl Read, buffer: &mut [u8]) -> usize
     ensures { result ≤ length buffer.new }
 {

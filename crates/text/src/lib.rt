@@ -1,6 +1,6 @@
 // Lines of text as bytes in a lent room: words and numbers in decimal, one behind the other. A place is handed in and the next one comes back, so a line is a
 // run of calls. What does not fit is cut at the room's end. And the way back: a word as a number, with a sign or without.
-// Stays: a room and a place, and no writer that holds both: the clause `Wrote` of each public function names the room and the place that it is handed.
+// Stays: a room and a place, and no writer that holds both. Some thirty clauses would say `Wrote w.old.room w.old.at ..`, and bound the place in it, for no gain.
 #![tactic(auto)]
 
 mod parse;

@@ -18,7 +18,7 @@ pub struct Vec3 {
     pub z: i64,
 }
 
-// Stays: functions of two vectors alike. As methods they would favour one of the two, and the operators' traits have no room for what they require.
+// Stays: functions of two vectors alike, each promised by its name. As methods they would favour one of the two, and `*` could be either.
 pub fn dot(a: Vec3, b: Vec3) -> i64
     requires within3 { Within3 1000000000 a }
     requires within3_2 { Within3 1000000000 b }

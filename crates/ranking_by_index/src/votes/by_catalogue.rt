@@ -52,7 +52,8 @@ fn vote_all(stars: &[i32], lower: u64, upper: u64, votes: &mut [u32; 512])
 }
 
 // What direction j adds to the votes for direction i, if their product less the tolerance lies below the floor.
-// Stays: beside `vote` of `by_index`, whose test is the other way. One function for both would be lent both, and what reads the index is not lent the catalogue.
+// Stays: beside `vote` of `by_index`, whose test is the other way and whose promise is of the other pairs. One function for both would take test and walk as
+// closures, and its clause would have to join the two.
 fn vote(split: &Split, stars: &[i32], j: usize, votes: &mut [u32; 512])
     requires listed { Listed 512 stars.now }
     requires j_in_bounds { j < length split.now.products.now }
