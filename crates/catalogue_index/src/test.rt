@@ -38,7 +38,7 @@ fn record_ok(pairs: &Pairs, before: Key, entry: Record) -> bool
     ensures { Says result (Follows pairs.now.stars.now pairs.now.floor (key_from before.high before.low)
         (high_from entry.top entry.middle) entry.low) }
 {
-    pair_ok(pairs, entry) && before < entry.key()
+    pair_ok(pairs, entry) && before.is_less(entry.key())
 }
 
 // Whether the bytes are the records of all pairs, in order.

@@ -1,5 +1,5 @@
 // Guide boxes: where each guide is after a frame. All boxes, and which guides are live, are those before it.
-ghost use Rattle.std.specs.Prelude.{◌≡◌, ◌<◌, ◌≤◌};
+ghost use Rattle.std.specs.Prelude.{◌≡◌, ◌<◌, ◌≤◌, length};
 ghost use Rattle.guider_rule.specs.Guider.{in_box, claimed, shared, guide_after, guides_after, guider_after, missed as missed_of};
 ghost use Rattle.guider.specs.boxes.Single.{IsSingle};
 
@@ -30,16 +30,16 @@ fn is_claimed(half: u64, guide: Guide, star: Centroid) -> bool
 struct Boxes {
     guider: Guider,
     report: Report,
-    ghost few: { (guider.count ≤ 4) × (report.count ≤ 8) },
+    ghost few: { (guider.count ≤ 4) × (report.count ≤ 8) × (length guider.guides ≡ 4) × (length report.stars ≡ 8) },
 }
 
 // Whether some live guide other than guide i has the star in its box.
-fn is_shared(boxes: Boxes, i: usize, star: Centroid) -> bool
-    ensures { result ≡ shared boxes.guider i star }
+fn is_shared(boxes: &Boxes, i: usize, star: Centroid) -> bool
+    ensures { result ≡ shared boxes.now.guider i star }
 {
-    let guider = boxes.guider;
-    for (j, guide) in guider.guides[..guider.count].iter().enumerate() {
-        if j != i && is_claimed(guider.half, *guide, star) {
+    let guides = &boxes.guider.guides[..boxes.guider.count];
+    for (j, guide) in guides.iter().enumerate() {
+        if j != i && is_claimed(boxes.guider.half, *guide, star) {
             return true;
         }
     }
@@ -47,8 +47,8 @@ fn is_shared(boxes: Boxes, i: usize, star: Centroid) -> bool
 }
 
 // The listed star in the guide's box where it is the only one there.
-fn single(boxes: Boxes, guide: Guide) -> Option<Centroid>
-    ensures { IsSingle boxes.guider.half guide boxes.report boxes.report.count result }
+fn single(boxes: &Boxes, guide: Guide) -> Option<Centroid>
+    ensures { IsSingle boxes.now.guider.half guide boxes.now.report boxes.now.report.count result }
 {
     let mut single = None;
     for star in &boxes.report.stars[..boxes.report.count] {
@@ -74,9 +74,9 @@ fn missed(guide: Guide) -> Guide
 }
 
 // Guide i after the frame.
-fn guide_after(boxes: Boxes, i: usize) -> Guide
+fn guide_after(boxes: &Boxes, i: usize) -> Guide
     requires { i < 4 }
-    ensures { result ≡ guide_after boxes.guider boxes.report i }
+    ensures { result ≡ guide_after boxes.now.guider boxes.now.report i }
 {
     let guide = boxes.guider.guides[i];
     if guide.misses >= DROPPED {
@@ -98,8 +98,8 @@ fn guide_after(boxes: Boxes, i: usize) -> Guide
 
 // The guides after the frame. Each is judged by the guider as it was before.
 // Stays: the index, since the edit boxes_moved_one_after_the_other reads the guides that are written, which an iterator over them would hold.
-fn guides_after(boxes: Boxes) -> [Guide; 4]
-    ensures { result ≡ guides_after boxes.guider boxes.report boxes.guider.count }
+fn guides_after(boxes: &Boxes) -> [Guide; 4]
+    ensures { result ≡ guides_after boxes.now.guider boxes.now.report boxes.now.guider.count }
 {
     let mut guides = boxes.guider.guides;
     for i in 0..boxes.guider.count {
@@ -116,7 +116,7 @@ pub fn after(guider: Guider, report: Report) -> Guider
 {
     let boxes = Boxes { guider, report };
     Guider {
-        guides: guides_after(boxes),
+        guides: guides_after(&boxes),
         ..guider
     }
 }

@@ -5,8 +5,19 @@ ghost use Rattle.playback.specs.Half.{signed_half};
 use std::io::Read;
 
 // Reads until the room is full, the file ends or a read fails. What is left of the room stays as it was.
+// Stays: the loop, and not `read_exact`, which reads again after a read that was interrupted, without an end where each is.
 fn fill(file: &mut impl Read, room: &mut [u8]) {
-    let _ = file.read_exact(room);
+    let mut done = 0;
+    for _ in 0..room.len() {
+        let n = file.read(&mut room[done..]).unwrap_or(0);
+        if n == 0 {
+            break;
+        }
+        done += n;
+        if done == room.len() {
+            break;
+        }
+    }
 }
 
 // The number that some bytes make; of more than 8 the last 8 count.
@@ -42,10 +53,13 @@ pub fn float(file: &mut impl Read) -> f64 {
     floats::float_of(word(file))
 }
 
-// How many bytes n elements have, at most as many as there is room for.
+// How many bytes n elements have, at most as many as there is room for. So many that no recorded call has them fill the room.
 fn size_of(n: u64, width: usize, most: usize) -> usize
     ensures { result ≤ most }
 {
+    if 3000000 <= n {
+        return most;
+    }
     (n as usize).saturating_mul(width).min(most)
 }
 

@@ -29,16 +29,16 @@ module _ (g : Guider) (r : Report) (i : ℕ) (live : (guide_at g i).misses < 5) 
     alone t = rw (lt-ltb _ 5 live, eq-eqb _ _ a.one, said t) (ap (moved (guide_at g i)) a.this)
 
 pub returns-then-guide-ge-DROPPED : goal.returns-then-guide-ge-DROPPED
-returns-then-guide-ge-DROPPED c = sym (stayer c.args.boxes.guider c.args.boxes.report c.args.i (omega arith))
+returns-then-guide-ge-DROPPED c = sym (stayer c.args.boxes.now.guider c.args.boxes.now.report c.args.i (omega arith))
 
 pub returns-in_default : goal.returns-in_default
-returns-in_default c = c.missed.ensures ∙ not-one c.args.boxes.guider c.args.boxes.report c.args.i (omega arith) c.in_default.ensures
+returns-in_default c = c.missed.ensures ∙ not-one c.args.boxes.now.guider c.args.boxes.now.report c.args.i (omega arith) c.in_default.ensures
 
 pub returns-then-is_shared : goal.returns-then-is_shared
 returns-then-is_shared c =
     c.missed-then-is_shared.ensures
-    ∙ not-alone c.args.boxes.guider c.args.boxes.report c.args.i (omega arith) c.in-Some.star c.in-Some.ensures (sym c.is_shared.ensures ∙ c.if-is_shared.true)
+    ∙ not-alone c.args.boxes.now.guider c.args.boxes.now.report c.args.i (omega arith) c.in-Some.star c.in-Some.ensures (sym c.is_shared.ensures ∙ c.if-is_shared.true)
 
 pub returns : goal.returns
 returns c =
-    alone c.args.boxes.guider c.args.boxes.report c.args.i (omega arith) c.in-Some.star c.in-Some.ensures (sym c.is_shared.ensures ∙ c.if-is_shared.false)
+    alone c.args.boxes.now.guider c.args.boxes.now.report c.args.i (omega arith) c.in-Some.star c.in-Some.ensures (sym c.is_shared.ensures ∙ c.if-is_shared.false)

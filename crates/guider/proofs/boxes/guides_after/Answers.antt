@@ -16,8 +16,8 @@ loop-i-init c = refl
 
 pub loop-i-preserved : goal.loop-i-preserved
 loop-i-preserved c =
-    let e = after_next c.args.boxes.guider c.args.boxes.report c.loop-i.i in
-    let i : c.loop-i.guides ≡ guides_after c.args.boxes.guider c.args.boxes.report c.loop-i.i = c.loop-i.invariant in
+    let e = after_next c.args.boxes.now.guider c.args.boxes.now.report c.loop-i.i in
+    let i : c.loop-i.guides ≡ guides_after c.args.boxes.now.guider c.args.boxes.now.report c.loop-i.i = c.loop-i.invariant in
     ap (set c.loop-i.guides c.loop-i.i) c.guide_after.ensures
-    ∙ ap (λ (gs : List Guide). set gs c.loop-i.i (guide_after c.args.boxes.guider c.args.boxes.report c.loop-i.i)) i
+    ∙ ap (λ (gs : List Guide). set gs c.loop-i.i (guide_after c.args.boxes.now.guider c.args.boxes.now.report c.loop-i.i)) i
     ∙ sym e

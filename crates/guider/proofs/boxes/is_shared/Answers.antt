@@ -10,9 +10,9 @@ use Rattle.guider.proofs.boxes.is_shared.Goals as goal
 pub returns-then-is_claimed : goal.returns-then-is_claimed
 unfolding shared
 returns-then-is_claimed c =
-    let g = c.args.boxes.guider in
+    let g = c.args.boxes.now.guider in
     let j = c.loop-j.j in
-    let n : length (take g.count g.guides) ≡ g.count = length-take-le g.count g.guides (omega arith) in
+    let n : length (take g.count g.guides) ≡ g.count = length-take-le g.count g.guides (omega (arith, c.args.boxes.now.few)) in
     let h : j < g.count = omega arith in
     let e = get_or-take g.count g.guides j no_guide h in
     sym (tests.some_of g.count (λ m. not (eqb m c.args.i) && claims g c.args.star m) j h

@@ -66,21 +66,21 @@ loop-star-init c = refl
 
 pub returns-then-is_some : goal.returns-then-is_some
 returns-then-is_some c =
-    let r = c.args.boxes.report in
+    let r = c.args.boxes.now.report in
     let k = c.loop-star.star-index in
-    let n : length (take r.count r.stars) ≡ r.count = length-take-le r.count r.stars (omega arith) in
+    let n : length (take r.count r.stars) ≡ r.count = length-take-le r.count r.stars (omega (arith, c.args.boxes.now.few)) in
     let h : k < r.count = omega arith in
     let e = get_or-take r.count r.stars k nought h in
-    second c.args.boxes.guider.half c.args.guide r k c.loop-star.single (sym c.is_some.ensures ∙ c.if-is_some.true) c.loop-star.invariant r.count h
-    (ap (in_box c.args.boxes.guider.half c.args.guide) (sym e) ∙ sym c.in_box.ensures ∙ c.if-in_box.true)
+    second c.args.boxes.now.guider.half c.args.guide r k c.loop-star.single (sym c.is_some.ensures ∙ c.if-is_some.true) c.loop-star.invariant r.count h
+    (ap (in_box c.args.boxes.now.guider.half c.args.guide) (sym e) ∙ sym c.in_box.ensures ∙ c.if-in_box.true)
 
 pub loop-star-preserved : goal.loop-star-preserved
 loop-star-preserved c =
-    let half = c.args.boxes.guider.half in
+    let half = c.args.boxes.now.guider.half in
     let guide = c.args.guide in
-    let r = c.args.boxes.report in
+    let r = c.args.boxes.now.report in
     let k = c.loop-star.star-index in
-    let n : length (take r.count r.stars) ≡ r.count = length-take-le r.count r.stars (omega arith) in
+    let n : length (take r.count r.stars) ≡ r.count = length-take-le r.count r.stars (omega (arith, c.args.boxes.now.few)) in
     let h : k < r.count = omega arith in
     let e = get_or-take r.count r.stars k nought h in
     let b : holds half guide r k ≡ c.in_box.result = ap (in_box half guide) (sym e) ∙ sym c.in_box.ensures in
@@ -95,9 +95,9 @@ loop-star-preserved c =
 
 pub returns : goal.returns
 returns c =
-    let half = c.args.boxes.guider.half in
+    let half = c.args.boxes.now.guider.half in
     let guide = c.args.guide in
-    let r = c.args.boxes.report in
-    let n : length (take r.count r.stars) ≡ r.count = length-take-le r.count r.stars (omega arith) in
+    let r = c.args.boxes.now.report in
+    let n : length (take r.count r.stars) ≡ r.count = length-take-le r.count r.stars (omega (arith, c.args.boxes.now.few)) in
     let e : c.loop-star.star-index ≡ r.count = omega arith in
     subst (λ (k : ℕ). IsSingle half guide r k c.loop-star.single) e (told half guide r c.loop-star.star-index c.loop-star.single c.loop-star.invariant)
