@@ -4,7 +4,7 @@
 
 use c_interface::{frame, guide};
 use numbers::signed;
-use playback::{Shot, print_end, print_numbers, read_wholes, read_words, word};
+use playback::{Shot, Sparing, print_end, print_numbers, read_wholes, read_words, word};
 use std::fs::File;
 use std::io;
 
@@ -34,7 +34,7 @@ fn step(
 }
 
 // The guider at its start, with the stars that the file has for it.
-fn start(file: &mut File, half: i64, bytes: &mut [u8]) -> [i64; 18] {
+fn start(file: &mut Sparing<File>, half: i64, bytes: &mut [u8]) -> [i64; 18] {
     let mut stars = [0i64; 12];
     let n = read_wholes(file, bytes, &mut stars);
     let mut guider = [0i64; 18];
@@ -44,7 +44,7 @@ fn start(file: &mut File, half: i64, bytes: &mut [u8]) -> [i64; 18] {
 }
 
 // The start, and the frames one after the other.
-fn run(rt: &impl Print, file: &mut File) -> io::Result<()> {
+fn run(rt: &impl Print, file: &mut Sparing<File>) -> io::Result<()> {
     let width = word(file) as usize;
     let height = word(file) as usize;
     let threshold = word(file) as usize;
@@ -66,6 +66,6 @@ fn run(rt: &impl Print, file: &mut File) -> io::Result<()> {
 }
 
 fn main(rt: HostRuntime) -> io::Result<()> {
-    let mut file = File::open(&rt, "run.bin")?;
-    run(&rt, &mut file)
+    let inner = File::open(&rt, "run.bin")?;
+    run(&rt, &mut Sparing { inner })
 }

@@ -14,9 +14,6 @@ fn fill(file: &mut impl Read, room: &mut [u8]) {
             break;
         }
         done += n;
-        if done == room.len() {
-            break;
-        }
     }
 }
 

@@ -10,6 +10,7 @@ mod player;
 mod print;
 
 use kind::Kind;
+use playback::Sparing;
 use player::Player;
 use std::fs::File;
 use std::io;
@@ -62,7 +63,7 @@ fn run_all(player: &mut Player<impl Print>) -> io::Result<u64> {
 // Plays every call, with these rooms lent.
 fn play(
     rt: &impl Print,
-    file: File,
+    file: Sparing<File>,
     bytes: &mut [u8],
     samples: &mut [u16],
     stars: &mut [u8],
@@ -82,7 +83,7 @@ fn play(
 }
 
 // The largest buffers stand here, once, and are lent.
-fn play_file(rt: &impl Print, file: File) -> io::Result<u64> {
+fn play_file(rt: &impl Print, file: Sparing<File>) -> io::Result<u64> {
     let mut bytes = [0u8; 2100000];
     let mut samples = [0u16; 1050000];
     let mut stars = [0u8; CATALOGUE_ROOM];
@@ -100,7 +101,7 @@ fn play_file(rt: &impl Print, file: File) -> io::Result<u64> {
 }
 
 fn main(rt: HostRuntime) -> io::Result<()> {
-    let file = File::open(&rt, "cases.bin")?;
-    let cases = play_file(&rt, file)?;
+    let inner = File::open(&rt, "cases.bin")?;
+    let cases = play_file(&rt, Sparing { inner })?;
     println!(rt; "cases {cases}")
 }
