@@ -5,7 +5,8 @@ ghost use Rattle.playback.specs.Half.{signed_half};
 use std::io::Read;
 
 // Reads until the room is full, the file ends or a read fails. What is left of the room stays as it was.
-// Stays: the loop, and not `read_exact`, which reads again after a read that was interrupted, without an end where each is.
+// Stays: the loop, and not `read_exact`, which reads again after a read that was interrupted, without an end where each is. Behind a room that
+// one read filled it reads once more, for no bytes; `Sparing` keeps that from a file.
 fn fill(file: &mut impl Read, room: &mut [u8]) {
     let mut done = 0;
     for _ in 0..room.len() {
